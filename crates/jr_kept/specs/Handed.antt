@@ -1,5 +1,5 @@
 -- What is handed on between a body and a method that it calls, by points.
-use Rattle.std.specs.Prelude.{◌≡◌, ◌⊎◌, ℕ, ◌<◌, Bool, not, ◌&&◌, List, Option, Some, None, IfSome, is_some, slice_get}
+use Rattle.std.specs.Prelude.{◌≡◌, ◌⊎◌, ℕ, ◌<◌, Bool, true, false, not, ◌&&◌, List, Option, Some, None, IfSome, is_some, nat_eq, slice_get}
 use Rattle.jr_tree.specs.Rows.{Rows, end}
 use Rattle.jr_flow_defs.specs.declared.point.Point.{Point}
 use Rattle.jr_flow_defs.specs.declared.point.PointKind.{PointKind}
@@ -69,6 +69,24 @@ pub record AreOne (a b : Option ℕ) : Type 0 where
 -- the definition is handed on from the use, and there is one
 abbrev pub IsFrom : Handing → Option ℕ → ℕ → Type 0
 IsFrom handing from d = AreOne from (use_in handing d)
+
+abbrev pub are_one : Option ℕ → Option ℕ → Bool
+are_one None other = false
+are_one (Some row) None = false
+are_one (Some row) (Some same) = nat_eq row same
+
+-- there is none, or it is this one
+abbrev pub is_none_or : Option ℕ → Option ℕ → Bool
+is_none_or None row = true
+is_none_or (Some found) row = are_one (Some found) row
+
+abbrev pub is_from : Handing → Option ℕ → Option ℕ → Bool
+is_from handing None from = true
+is_from handing (Some d) from = are_one from (use_in handing d)
+
+abbrev pub has_pair : Handing → Option ℕ → Option ℕ → Bool
+has_pair handing definition None = true
+has_pair handing definition (Some k) = is_from handing definition (Some k)
 
 -- so it is with the first so many pairs, and definitions among points
 abbrev pub HasPairs : Handing → List ℕ → List ℕ → ℕ → Type 0
