@@ -26,3 +26,4 @@ pub mod AtOnce
 pub mod Upward
 pub mod Moved
 pub mod Starting
+pub mod Throwing

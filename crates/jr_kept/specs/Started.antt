@@ -80,12 +80,19 @@ pub record BeginsFirst (p : Rows) (m : Meaning) (local : ℕ) : Type 0 where
   pub uses : declared (m.targets used_at) ≡ Some local
   pub inside : IsInCreation p m used_at
 
--- the statements of bodies keep their places
-abbrev pub IsPlainCourse : Course → Type 0
-IsPlainCourse course.Same = ⊤
-IsPlainCourse (course.Removed range) = ⊤
-IsPlainCourse (course.Inlined local statement) = ⊥
-IsPlainCourse (course.Extracted call method) = ⊥
+-- the local is replaced by its initializer, and a creation may begin an initialization before that
+abbrev pub BeginsFirstIn : Course → Rows → Meaning → Type 0
+BeginsFirstIn (course.Inlined local statement) p m = BeginsFirst p m local
+BeginsFirstIn course.Same p m = ⊥
+BeginsFirstIn (course.Removed range) p m = ⊥
+BeginsFirstIn (course.Extracted call method) p m = ⊥
+
+-- no statements go into a method of their own
+abbrev pub IsInPlace : Course → Type 0
+IsInPlace course.Same = ⊤
+IsInPlace (course.Removed range) = ⊤
+IsInPlace (course.Inlined local statement) = ⊤
+IsInPlace (course.Extracted call method) = ⊥
 
 -- ---- by points
 

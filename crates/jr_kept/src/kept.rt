@@ -1,5 +1,5 @@
 // What a change loses.
-ghost use Rattle.std.specs.Prelude.{◌≡◌, ◌+◌, ◌<◌, ◌^◌, ℕ, None, Decides, IfOk, IfSome, Some, length, true};
+ghost use Rattle.std.specs.Prelude.{◌≡◌, ◌+◌, ◌<◌, ◌≤◌, ◌^◌, ℕ, None, Decides, IfOk, IfSome, Some, length, true};
 ghost use Rattle.jr_tree.specs.Rows as tree;
 ghost use Rattle.jr_locks.specs.Origins.{origin_of, row_by};
 ghost use Rattle.jr_flow_defs.specs.Meaning.{Meaning};
@@ -9,7 +9,7 @@ ghost use Rattle.jr_flow.specs.Reached.{steps_of, IsGraphOf};
 ghost use Rattle.jr_kept.specs.Ordered.{AreNone};
 ghost use Rattle.jr_kept.specs.Compared.{KeepsBodies, KeepsWholeBodies, KeepsJoined, KeepsJoinedUses, KeepsJoinedValues, KeepsJoinedReturns, IsOldBody, IsJoinedGraph, IsMethodGraph};
 ghost use Rattle.jr_kept.specs.Courses as tell;
-ghost use Rattle.jr_kept.specs.Started.{IsPlainCourse, LeavesStartIn};
+ghost use Rattle.jr_kept.specs.Started.{BeginsFirst, BeginsFirstIn, IsInPlace, LeavesStartIn};
 
 use crate::arriving::put_lost_definitions;
 use crate::carried::put_lost_values;
@@ -105,6 +105,10 @@ fn lost_in_inlined(
 ) -> Result<LostFlow, FlowFault>
     ensures control { (m w : Meaning) → IsGraphOf flows.now.names.rows.now m flows.now.before.now → IsGraphOf flows.now.rows.now w flows.now.after.now → IfOk result (λ lost. lost.control ≡ None → KeepsBodies flows.now m w) }
     ensures uses { (m w : Meaning) → IsGraphOf flows.now.names.rows.now m flows.now.before.now → IsGraphOf flows.now.rows.now w flows.now.after.now → IfOk result (λ lost. lost.control ≡ None → lost.def_use ≡ None → KeepsWholeBodies flows.now m w × (local + 1 < 2 ^ 32 → IsDisturbed flows.now.names.rows.now (body_flow flows.now.names.rows.now m flows.now.before.now.body) local → ⊥)) }
+    ensures only_control { (m w : Meaning) → tell.IsSeen old.now m → IsGraphOf flows.now.names.rows.now m flows.now.before.now → IsGraphOf flows.now.rows.now w flows.now.after.now → (BeginsFirst old.now.marks.rows.now m local → ⊥)
+        → IfOk result (λ lost. KeepsBodies flows.now m w → lost.control ≡ None) }
+    ensures only_uses { (m w : Meaning) → IsGraphOf flows.now.names.rows.now m flows.now.before.now → IsGraphOf flows.now.rows.now w flows.now.after.now → local + 1 < 2 ^ 32 → flows.now.before.now.body ≤ local
+        → IfOk result (λ lost. KeepsWholeBodies flows.now m w → (IsDisturbed flows.now.names.rows.now (body_flow flows.now.names.rows.now m flows.now.before.now.body) local → ⊥) → lost.def_use ≡ None) }
 {
     let mut control = lost_control(alloc, flows)?;
     put_delayed(alloc, old, flows.before, local, &mut control)?;
@@ -155,7 +159,7 @@ fn dropped(copy: &[u32], statement: u32) -> Option<u32>
 
 // The statement is the declaration in which the local stands (JLS 14.4).
 fn is_declaration(rows: &[Row], local: u32, statement: u32) -> bool
-    ensures { result ≡ true → tree.parent rows.now local ≡ statement }
+    ensures { Decides result (tree.parent rows.now local ≡ statement) }
 {
     parent_at(rows, local) == statement
 }
@@ -167,7 +171,8 @@ fn declared_body(
     local: u32,
     statement: u32,
 ) -> Result<Option<u32>, OutOfMemory>
-    ensures { length rows.now < 2 ^ 32 → IfOk result (λ found. IfSome found (λ body. tell.IsBodyRound rows.now local body × (tree.parent rows.now local ≡ statement))) }
+    ensures round { length rows.now < 2 ^ 32 → IfOk result (λ found. IfSome found (λ body. tell.IsBodyRound rows.now local body × (tree.parent rows.now local ≡ statement))) }
+    ensures none { length rows.now < 2 ^ 32 → IfOk result (λ found. found ≡ None → tree.parent rows.now local ≡ statement → (body : ℕ) → tell.IsBodyRound rows.now local body → ⊥) }
 {
     if !is_declaration(rows, local, statement) {
         return Ok(None);
@@ -187,6 +192,10 @@ fn lost_by_inlining(
         → IfOk result (λ lost. lost.control ≡ None → tell.KeepsInlinedControl old.now.marks.rows.now locked.now.marks.rows.now m w locks.now.origin.items locks.now.copy.items local statement) }
     ensures uses { (m w : Meaning) → tell.IsSeen old.now m → tell.IsSeen locked.now w
         → IfOk result (λ lost. lost.control ≡ None → lost.def_use ≡ None → tell.KeepsInlinedFlow old.now.marks.rows.now locked.now.marks.rows.now m w locks.now.origin.items locks.now.copy.items local statement) }
+    ensures only_control { (m w : Meaning) → tell.IsSeen old.now m → tell.IsSeen locked.now w → (BeginsFirst old.now.marks.rows.now m local → ⊥)
+        → IfOk result (λ lost. tell.KeepsInlinedControl old.now.marks.rows.now locked.now.marks.rows.now m w locks.now.origin.items locks.now.copy.items local statement → lost.control ≡ None) }
+    ensures only_uses { (m w : Meaning) → tell.IsSeen old.now m → tell.IsSeen locked.now w
+        → IfOk result (λ lost. tell.KeepsInlinedFlow old.now.marks.rows.now locked.now.marks.rows.now m w locks.now.origin.items locks.now.copy.items local statement → lost.def_use ≡ None) }
 {
     let Some(body) = declared_body(alloc, old.marks.rows, local, statement)? else {
         return Ok(lost_at(old, local));
@@ -220,9 +229,12 @@ fn lost_in_extracted(
     call: u32,
     method: u32,
 ) -> Result<LostFlow, FlowFault>
-    ensures control { (m w : Meaning) → IsGraphOf flows.now.names.rows.now m flows.now.before.now → IsJoinedGraph flows.now w call method → IfOk result (λ lost. lost.control ≡ None → KeepsJoined flows.now m w call method) }
+    ensures control { (m w : Meaning) → IsGraphOf flows.now.names.rows.now m flows.now.before.now → IsJoinedGraph flows.now w call method → IsOldBody flows.now → method + 1 < 2 ^ 32
+        → IfOk result (λ lost. lost.control ≡ None → KeepsJoined flows.now m w call method × KeepsJoinedReturns flows.now m method) }
     ensures uses { (m w : Meaning) → IsGraphOf flows.now.names.rows.now m flows.now.before.now → IsJoinedGraph flows.now w call method → IsMethodGraph flows.now.rows.now w inner.now method → IsOldBody flows.now → call + 1 < 2 ^ 32 → method + 1 < 2 ^ 32 → statement_round flows.now.rows.now call call + 1 < 2 ^ 32
         → IfOk result (λ lost. lost.control ≡ None → lost.def_use ≡ None → KeepsJoined flows.now m w call method × KeepsJoinedUses flows.now m w call method × KeepsJoinedValues flows.now w call method × KeepsJoinedReturns flows.now m method) }
+    ensures only_control { (m w : Meaning) → IsGraphOf flows.now.names.rows.now m flows.now.before.now → IsJoinedGraph flows.now w call method → IsOldBody flows.now → method + 1 < 2 ^ 32
+        → IfOk result (λ lost. KeepsJoined flows.now m w call method → KeepsJoinedReturns flows.now m method → lost.control ≡ None) }
 {
     let mut control = lost_control(alloc, flows)?;
     put_held_returns(alloc, flows, method, &mut control)?;
@@ -264,6 +276,7 @@ fn joined_graph(
 fn is_apart(rows: &[Row], body: u32, method: u32) -> bool
     ensures row { result ≡ true → method < length rows.now }
     ensures apart { result ≡ true → body ≡ method → ⊥ }
+    ensures all { method < length rows.now → (body ≡ method → ⊥) → result ≡ true }
 {
     is_row(rows, method) && body != method
 }
@@ -280,6 +293,8 @@ fn lost_by_extracting(
         → IfOk result (λ lost. lost.control ≡ None → tell.KeepsExtractedControl old.now.marks.rows.now locked.now.marks.rows.now m w locks.now.origin.items call method) }
     ensures uses { (m w : Meaning) → tell.IsSeen old.now m → tell.IsSeen locked.now w
         → IfOk result (λ lost. lost.control ≡ None → lost.def_use ≡ None → tell.KeepsExtractedFlow old.now.marks.rows.now locked.now.marks.rows.now m w locks.now.origin.items call method) }
+    ensures only_control { (m w : Meaning) → tell.IsSeen old.now m → tell.IsSeen locked.now w
+        → IfOk result (λ lost. tell.KeepsExtractedControl old.now.marks.rows.now locked.now.marks.rows.now m w locks.now.origin.items call method → lost.control ≡ None) }
 {
     let rows = locked.marks.rows;
     let Some(copy) = body_round(alloc, rows, call)? else {
@@ -321,8 +336,10 @@ fn lost_by_course(
         → IfOk result (λ lost. lost.control ≡ None → tell.KeepsCourse course old.now.marks.rows.now locked.now.marks.rows.now m w locks.now.origin.items locks.now.copy.items) }
     ensures uses { (m w : Meaning) → tell.IsSeen old.now m → tell.IsSeen locked.now w
         → IfOk result (λ lost. lost.control ≡ None → lost.def_use ≡ None → tell.KeepsUsesOf course old.now.marks.rows.now locked.now.marks.rows.now m w locks.now.origin.items locks.now.copy.items) }
-    ensures no_control { IsPlainCourse course → IfOk result (λ lost. lost.control ≡ None) }
-    ensures no_use { IsPlainCourse course → IfOk result (λ lost. lost.def_use ≡ None) }
+    ensures only_control { (m w : Meaning) → tell.IsSeen old.now m → tell.IsSeen locked.now w → (BeginsFirstIn course old.now.marks.rows.now m → ⊥)
+        → IfOk result (λ lost. tell.KeepsCourse course old.now.marks.rows.now locked.now.marks.rows.now m w locks.now.origin.items locks.now.copy.items → lost.control ≡ None) }
+    ensures only_uses { (m w : Meaning) → tell.IsSeen old.now m → tell.IsSeen locked.now w → IsInPlace course
+        → IfOk result (λ lost. tell.KeepsUsesOf course old.now.marks.rows.now locked.now.marks.rows.now m w locks.now.origin.items locks.now.copy.items → lost.def_use ≡ None) }
 {
     match course {
         Course::Same => Ok(nothing()),
@@ -385,10 +402,12 @@ pub fn lost_flow(
         → IfOk result (λ lost. lost.control ≡ None → tell.KeepsRaisedControl change.now.raised old.now.marks.rows.now locked.now.marks.rows.now m w locks.now.origin.items locks.now.copy.items) }
     ensures raised_uses { (m w : Meaning) → tell.IsSeen old.now m → tell.IsSeen locked.now w
         → IfOk result (λ lost. lost.control ≡ None → lost.def_use ≡ None → tell.KeepsRaisedFlow change.now.raised old.now.marks.rows.now locked.now.marks.rows.now m w locks.now.origin.items locks.now.copy.items) }
-    ensures only_control { (m w : Meaning) → tell.IsSeen old.now m → tell.IsSeen locked.now w → IsPlainCourse change.now.course
-        → IfOk result (λ lost. tell.KeepsRaisedControl change.now.raised old.now.marks.rows.now locked.now.marks.rows.now m w locks.now.origin.items locks.now.copy.items → (LeavesStartIn change.now.raised old.now.marks.rows.now m → ⊥) → lost.control ≡ None) }
-    ensures only_uses { (m w : Meaning) → tell.IsSeen old.now m → tell.IsSeen locked.now w → IsPlainCourse change.now.course
-        → IfOk result (λ lost. tell.KeepsRaisedFlow change.now.raised old.now.marks.rows.now locked.now.marks.rows.now m w locks.now.origin.items locks.now.copy.items → lost.def_use ≡ None) }
+    ensures only_control { (m w : Meaning) → tell.IsSeen old.now m → tell.IsSeen locked.now w → (LeavesStartIn change.now.raised old.now.marks.rows.now m → ⊥) → (BeginsFirstIn change.now.course old.now.marks.rows.now m → ⊥)
+        → IfOk result (λ lost. tell.KeepsCourse change.now.course old.now.marks.rows.now locked.now.marks.rows.now m w locks.now.origin.items locks.now.copy.items
+        → tell.KeepsRaisedControl change.now.raised old.now.marks.rows.now locked.now.marks.rows.now m w locks.now.origin.items locks.now.copy.items → lost.control ≡ None) }
+    ensures only_uses { (m w : Meaning) → tell.IsSeen old.now m → tell.IsSeen locked.now w → IsInPlace change.now.course
+        → IfOk result (λ lost. tell.KeepsUsesOf change.now.course old.now.marks.rows.now locked.now.marks.rows.now m w locks.now.origin.items locks.now.copy.items
+        → tell.KeepsRaisedFlow change.now.raised old.now.marks.rows.now locked.now.marks.rows.now m w locks.now.origin.items locks.now.copy.items → lost.def_use ≡ None) }
 {
     let raised = lost_by_raising(alloc, old, locked, locks, change.raised)?;
     let ordered = lost_by_course(alloc, old, locked, locks, change.course)?;
