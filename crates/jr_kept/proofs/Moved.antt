@@ -73,14 +73,14 @@ notes_more p body bound origin first at old new row le is h notes = record {
       (λ now. record { copy = at; from = le; to = omega arith; noted = record { at = now.at; stands = sym is ∙ now.stands; noted = now.noted; place = now.place } }) (notes.out j s);
 }
 
-pub all_moved : (p q : Rows) (body method first stop last bound : ℕ) (origin : Origin) (moved : Stamps) → first ≡ method → stop ≡ end q method → last ≡ end p body → bound ≡ last - body
+pub all_moved : (p q : Rows) (body method first stop last bound : ℕ) (origin : Origin) (moved : Stamps) → first ≡ method + 1 → stop ≡ end q method → last ≡ end p body → bound ≡ last - body
     → NotesTo p body bound origin first stop moved → AreMoved p q body method origin moved
 all_moved p q body method first stop last bound origin moved is_first is_stop is_last is_bound notes n m =
     let low = m.from in let high = m.to in let behind = m.behind in let within = m.within in
     notes.here m.copy n (omega (arith, is_first, behind)) (omega (arith, is_stop, within)) m.is_copy
     (and_true (not (nat_lt n body)) (is_return (label p n)) (not_before n body m.from) m.returns) (omega (arith, is_bound, is_last, low, high))
 
-pub only_moved : (p q : Rows) (body method first stop last bound : ℕ) (origin : Origin) (moved : Stamps) → first ≡ method → stop ≡ end q method → last ≡ end p body → bound ≡ last - body
+pub only_moved : (p q : Rows) (body method first stop last bound : ℕ) (origin : Origin) (moved : Stamps) → first ≡ method + 1 → stop ≡ end q method → last ≡ end p body → bound ≡ last - body
     → NotesTo p body bound origin first stop moved → OnlyMoved p q body method origin moved
 only_moved p q body method first stop last bound origin moved is_first is_stop is_last is_bound notes j s =
     let o = notes.out j s in let both = and_out (not (nat_lt o.noted.at body)) (is_return (label p o.noted.at)) o.noted.noted in

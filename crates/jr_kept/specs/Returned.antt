@@ -21,14 +21,14 @@ abbrev pub is_return : Label → Bool
 is_return is.Return = true
 is_return _ = false
 
--- the row of the body is that of a `return` of which a row of the method is a copy
+-- the row of the body is that of a `return` of which a row below that of the method is a copy
 pub record IsMoved (p q : Rows) (body method : ℕ) (origin : Origin) (n : ℕ) : Type 0 where
   pub from : body ≤ n
   pub to : n < end p body
   pub returns : is_return (label p n) ≡ true
   pub copy : ℕ
   pub is_copy : origin copy ≡ Some n
-  pub behind : method ≤ copy
+  pub behind : method < copy
   pub within : copy < end q method
 
 -- the rows are in the set, from that of the body on

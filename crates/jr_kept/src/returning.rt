@@ -77,6 +77,13 @@ fn note_all(moved: &mut Stamps, names: &Names, origin: &[u32], first: u32, end: 
     }
 }
 
+// The number behind that of a row.
+fn row_behind(row: u32) -> u32
+    ensures { row + 1 < 2 ^ 32 → result ≡ row + 1 }
+{
+    row.saturating_add(1)
+}
+
 // The rows of the old body, from its own on, at which a `return` stands that has a copy in the method.
 fn moved_returns(alloc: Global, flows: &Flows, method: u32) -> Result<Stamps, OutOfMemory>
     ensures every { flows.now.names.body + 1 < 2 ^ 32 → method + 1 < 2 ^ 32 → IfOk result (λ moved. tell.AreMoved flows.now.names.rows.now flows.now.rows.now flows.now.names.body method (origin_in flows.now.origin.now) moved) }
@@ -86,7 +93,8 @@ fn moved_returns(alloc: Global, flows: &Flows, method: u32) -> Result<Stamps, Ou
     let whole = rows_of(names.rows, names.body);
     let range = rows_of(flows.rows, method);
     let mut moved = Stamps::new(alloc, count_rows(whole))?;
-    note_all(&mut moved, names, flows.origin, range.first, range.end);
+    let first = row_behind(range.first);
+    note_all(&mut moved, names, flows.origin, first, range.end);
     Ok(moved)
 }
 
@@ -186,6 +194,7 @@ pub(crate) fn put_held_returns(
     lost: &mut Firsts,
 ) -> Result<(), OutOfMemory>
     ensures adds { OnOk result (OnlyAdds lost.old lost.new) }
+    ensures shaped { flows.now.names.body + 1 < 2 ^ 32 → OnOk result (AreShaped flows.now.names.rows.now flows.now.names.body) }
     ensures leaves { flows.now.names.body + 1 < 2 ^ 32 → method + 1 < 2 ^ 32
         → OnOk result (AreNone lost.new → tell.LeavesByNumbers flows.now.names.rows.now flows.now.rows.now flows.now.names.body method (origin_in flows.now.origin.now) flows.now.before.now.points.items (steps_of flows.now.before.now)) }
     ensures kept { flows.now.names.body + 1 < 2 ^ 32 → method + 1 < 2 ^ 32

@@ -7,6 +7,9 @@ use Rattle.jr_kept.proofs.returning.put_held_returns.Goals as goal
 pub returns-clause-adds : goal.returns-clause-adds
 returns-clause-adds c = λ none. (c.put_all_pending.ensures.none (c.put_all_steps.ensures.none none).0).0
 
+pub returns-clause-shaped : goal.returns-clause-shaped
+returns-clause-shaped c = λ few_body. c.have_parts.ensures few_body c.if-not-have_parts.false
+
 pub returns-clause-leaves : goal.returns-clause-leaves
 returns-clause-leaves c = λ few_body few_method none. let flows = c.args.flows.now in let graph = flows.before.now in let points = graph.points.items in let steps = graph.steps.items in let p = flows.names.rows.now in let body = flows.names.body in
     let moved = c.in_ok-moved.moved in let second = c.put_all_steps.ensures.none none in let first = c.put_all_pending.ensures.none second.0 in
