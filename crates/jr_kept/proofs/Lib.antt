@@ -27,3 +27,4 @@ pub mod Upward
 pub mod Moved
 pub mod Starting
 pub mod Throwing
+pub mod Handover

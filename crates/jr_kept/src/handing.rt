@@ -1,5 +1,5 @@
 // Definitions that only hand on what reaches a use: parameters of an added method, and the local to which its call is assigned.
-ghost use Rattle.std.specs.Prelude.{◌≡◌, ◌+◌, ◌<◌, ◌^◌, ⊥, ℕ, true, Decides, None, Some, IfNone, IfOk, IfSome, filter, length, slice_get};
+ghost use Rattle.std.specs.Prelude.{◌≡◌, ◌+◌, ◌<◌, ◌^◌, ℕ, true, Decides, None, Some, IfNone, IfOk, IfSome, filter, length, slice_get, slice_set};
 ghost use Rattle.jr_tree.specs.Rows as tree;
 ghost use Rattle.jr_flow_defs.specs.Acts as acts;
 ghost use Rattle.jr_flow_defs.specs.Kept as kept;
@@ -246,7 +246,8 @@ impl Handing {
 
     // No definition of these rows hands anything on so far.
     fn empty(alloc: Global, span: RowRange) -> Result<Handing, OutOfMemory>
-        ensures { IfOk result (λ handing. (d : ℕ) → tell.use_in handing d ≡ None) }
+        ensures none { IfOk result (λ handing. (d : ℕ) → tell.use_in handing d ≡ None) }
+        ensures spans { IfOk result (λ handing. handed.Spans handing span) }
     {
         let uses = vec![in alloc; NO_ROW; count_rows(span)]?;
         Ok(Handing {
@@ -255,30 +256,51 @@ impl Handing {
         })
     }
 
-    fn put(&mut self, definition: u32, from: u32)
-        ensures { handed.AddsOne self.old self.new (Some definition) (Some from) }
+    // Sets the use at a place, if there is that place.
+    fn set(&mut self, place: usize, from: u32)
+        ensures first { self.new.first ≡ self.old.first }
+        ensures uses { self.new.uses.items ≡ slice_set self.old.uses.items place from }
     {
-        if let Some(place) = definition.checked_sub(self.first) {
-            if let Some(item) = self.uses.get_mut(place as usize) {
-                *item = from;
-            }
+        if place < self.uses.len() {
+            self.uses[place] = from;
+        }
+    }
+
+    fn put(&mut self, definition: u32, from: u32)
+        ensures adds { handed.AddsOne self.old self.new (Some definition) (Some from) }
+        ensures puts { handed.PutsOne self.old self.new (Some definition) (Some from) }
+    {
+        if self.first <= definition {
+            self.set((definition - self.first) as usize, from);
+        }
+    }
+
+    // Puts the definition with the use, if there is one.
+    fn put_from(&mut self, definition: u32, from: Option<u32>)
+        ensures adds { handed.AddsOne self.old self.new (Some definition) from }
+        ensures puts { handed.PutsOne self.old self.new (Some definition) from }
+    {
+        match from {
+            Some(from) => self.put(definition, from),
+            None => {}
         }
     }
 
     // Puts the definition with the use, if there are both.
     fn put_one(&mut self, definition: Option<u32>, from: Option<u32>)
-        ensures { handed.AddsOne self.old self.new definition from }
+        ensures adds { handed.AddsOne self.old self.new definition from }
+        ensures puts { handed.PutsOne self.old self.new definition from }
     {
-        if let Some(definition) = definition {
-            if let Some(from) = from {
-                self.put(definition, from);
-            }
+        match definition {
+            Some(definition) => self.put_from(definition, from),
+            None => {}
         }
     }
 
     // Each definition hands on what reaches the use at its place.
     fn put_pairs(&mut self, definitions: &[u32], uses: &[u32])
-        ensures { handed.AddsPairs self.old self.new definitions.now uses.now }
+        ensures adds { handed.AddsPairs self.old self.new definitions.now uses.now }
+        ensures puts { handed.ArePairedOnce definitions.now uses.now → handed.PutsPairs self.old self.new definitions.now uses.now (length definitions.now) }
     {
         for place in 0..definitions.len() {
             let definition = row_in(definitions, place);
@@ -289,7 +311,8 @@ impl Handing {
 
     // Each definition inside a row hands on what reaches the use.
     fn put_assigned(&mut self, range: RowRange, points: &[Point], from: Option<u32>)
-        ensures { handed.AddsAssigned self.old self.new points.now range.first range.end from }
+        ensures adds { handed.AddsAssigned self.old self.new points.now range.first range.end from }
+        ensures puts { handed.PutsAssigned self.old self.new points.now range.first range.end from (length points.now) }
     {
         for number in 0..points.len() {
             self.put_one(defined_row(range, point_at(points, number)), from);
@@ -303,7 +326,8 @@ impl Handing {
         points: &[Point],
         crossing: &Crossing,
     ) -> Result<Handing, OutOfMemory>
-        ensures { IfOk result (λ handing. handed.OnlyCrosses handing crossing.now points.now) }
+        ensures only { IfOk result (λ handing. handed.OnlyCrosses handing crossing.now points.now) }
+        ensures every { (origin : kept.Origin) → handed.CrossesOnce span crossing.now points.now origin → IfOk result (λ handing. handed.HasCrossing handing crossing.now points.now origin) }
     {
         let mut handing = Handing::empty(alloc, span)?;
         handing.put_pairs(&crossing.parameters, &crossing.arguments);
