@@ -262,11 +262,11 @@ taken first last origin k local o e inside added = ap (added_in first last origi
 
 -- ---- in a flow
 
-module _ {B : Type 0} (q : Rows) (g : Flow B) (body : ℕ) (points : List Point) (steps : StepList) (graph : IsGraph g body points steps) (handing : Handing) (call method : ℕ) (origin : Origin) (h : IsHandingOf handing q points call method origin) where
+module _ {B : Type 0} (q : Rows) (g : Flow B) (body : ℕ) (points : List Point) (steps : StepList) (graph : IsGraph g body points steps) (call method : ℕ) (origin : Origin) where
   abbrev statement : ℕ
   statement = statement_round q call call
 
-  assigned_out : (d : ℕ) → IsDefinedAt points statement (end q statement) d → IsAssigned q g call d
+  pub assigned_out : (d : ℕ) → IsDefinedAt points statement (end q statement) d → IsAssigned q g call d
   assigned_out d a = let o = gives statement (end q statement) d (slice_get points a.number) a.defines in
       let place = place_of g body points steps graph a.number (record { row = d; kind = kind.Definition o.local }) o.stands refl in
       record { at = place.at; local = o.local; reached = place.reached; defines = place.stands; inside = o.inside }
@@ -277,31 +277,32 @@ module _ {B : Type 0} (q : Rows) (g : Flow B) (body : ℕ) (points : List Point)
     defines = given statement (end q statement) d a.local (slice_get points (graph.number a.at)) (graph.numbering.stands a.at (record { row = d; kind = kind.Definition a.local }) a.reached a.defines) a.inside;
   }
 
-  returned_out : (k : ℕ) → IsAddedAt points method (end q method) origin k → IsReturned q g method origin k
+  pub returned_out : (k : ℕ) → IsAddedAt points method (end q method) origin k → IsReturned q g method origin k
   returned_out k a = let o = takes method (end q method) origin k (slice_get points a.number) a.uses in
       let place = place_of g body points steps graph a.number (record { row = k; kind = kind.Use o.local }) o.stands refl in
       record { at = place.at; local = o.local; reached = place.reached; uses = place.stands; inside = o.inside; added = o.added }
 
-  returned_into : (k : ℕ) → IsReturned q g method origin k → IsAddedAt points method (end q method) origin k
+  pub returned_into : (k : ℕ) → IsReturned q g method origin k → IsAddedAt points method (end q method) origin k
   returned_into k a = record {
     number = graph.number a.at;
     uses = taken method (end q method) origin k a.local (slice_get points (graph.number a.at)) (graph.numbering.stands a.at (record { row = k; kind = kind.Use a.local }) a.reached a.uses) a.inside a.added;
   }
 
+module _ {B : Type 0} (q : Rows) (g : Flow B) (body : ℕ) (points : List Point) (steps : StepList) (graph : IsGraph g body points steps) (handing : Handing) (call method : ℕ) (origin : Origin) (h : IsHandingOf handing q points call method origin) where
   -- by the rows of the crossing
   assigned_here : (d : ℕ) → IsAssignedIn h.crossing points d → IsAssigned q g call d
-  assigned_here d a = assigned_out d (subst (λ n. IsDefinedAt points statement n d) h.is.statement.1 (subst (λ n. IsDefinedAt points n h.crossing.statement.end d) h.is.statement.0 a))
+  assigned_here d a = assigned_out q g body points steps graph call method origin d (subst (λ n. IsDefinedAt points (statement_round q call call) n d) h.is.statement.1 (subst (λ n. IsDefinedAt points n h.crossing.statement.end d) h.is.statement.0 a))
 
   assigned_there : (d : ℕ) → IsAssigned q g call d → IsAssignedIn h.crossing points d
-  assigned_there d a = subst (λ n. IsDefinedAt points n h.crossing.statement.end d) (sym h.is.statement.0) (subst (λ n. IsDefinedAt points statement n d) (sym h.is.statement.1) (assigned_into d a))
+  assigned_there d a = subst (λ n. IsDefinedAt points n h.crossing.statement.end d) (sym h.is.statement.0) (subst (λ n. IsDefinedAt points (statement_round q call call) n d) (sym h.is.statement.1) (assigned_into q g body points steps graph call method origin d a))
 
   returned_there : (k : ℕ) → IsReturned q g method origin k → h.crossing.returned ≡ Some k
-  returned_there k a = h.all.one k (subst (λ n. IsAddedAt points n h.crossing.method.end origin k) (sym h.is.inside.0) (subst (λ n. IsAddedAt points method n origin k) (sym h.is.inside.1) (returned_into k a)))
+  returned_there k a = h.all.one k (subst (λ n. IsAddedAt points n h.crossing.method.end origin k) (sym h.is.inside.0) (subst (λ n. IsAddedAt points method n origin k) (sym h.is.inside.1) (returned_into q g body points steps graph call method origin k a)))
 
   hands_out : (d k : ℕ) → use_in handing d ≡ Some k → Hands q g call method origin d k
   hands_out d k e = ⊎_elim
       (λ p. Hands.argument p.place (ap (λ xs. slice_get xs p.place) (sym h.is.parameters) ∙ p.definition) (ap (λ xs. slice_get xs p.place) (sym h.is.arguments) ∙ p.used))
-      (λ a. Hands.result (assigned_here d a.0) (returned_out k (subst (λ o. IfSome o (λ n. IsAddedAt points method (end q method) origin n)) a.1 h.is.returned)))
+      (λ a. Hands.result (assigned_here d a.0) (returned_out q g body points steps graph call method origin k (subst (λ o. IfSome o (λ n. IsAddedAt points method (end q method) origin n)) a.1 h.is.returned)))
       (h.only d k e)
 
   hands_into : (d k : ℕ) → Hands q g call method origin d k → use_in handing d ≡ Some k

@@ -9,6 +9,7 @@ use Rattle.std.proofs.lemmas.Bool.Decides.{Decides-ltb, Decides-and}
 use Rattle.jr_tree.specs.Rows.{Rows, parent, end}
 use Rattle.jr_tree.specs.Tree.{IsTree}
 use Rattle.jr_change.specs.declared.project.Project.{Project}
+use Rattle.jr_locks.specs.Origins.{no_row}
 use Rattle.jr_flow_defs.specs.Meaning.{Meaning}
 use Rattle.jr_flow_defs.proofs.Searched.{contains_first}
 use Rattle.jr_flow.specs.Bodies.{has_code_by, has_code, bodies_below}
@@ -83,18 +84,26 @@ pub round_begun : (p : Rows) (row : ℕ) (all : List ℕ) → IsLastRound p row 
 round_begun p row all n k lt e h = absurd (omega (arith, lt))
 
 pub round_next : (p : Rows) (row i body : ℕ) (all : List ℕ) (found : Option ℕ) (b : Bool) → AreBodies p all → IsBody p body → slice_get all i ≡ Some body → Decides b (Holds p row body) → IsLastRound p row all i found → IsLastRound p row all (i + 1) (if b then Some body else found)
-round_next p row i body all found true are is at tells before = (is, tells.0 refl, λ n k lt e h. ⊎_elim
-    (λ less. let low = are.rising n i k body less e at in omega (arith, low))
-    (λ past. let same : n ≡ i = omega (arith, lt, past) in let one = same_Some k body (sym e ∙ ap (slice_get all) same ∙ at) in omega (arith, one))
-    (cases_lt n i))
+round_next p row i body all found true are is at tells before = (
+  is,
+  tells.0 refl,
+  λ n k lt e h. ⊎_elim
+      (λ less. let low = are.rising n i k body less e at in omega (arith, low))
+      (λ past. let same : n ≡ i = omega (arith, lt, past) in let one = same_Some k body (sym e ∙ ap (slice_get all) same ∙ at) in omega (arith, one))
+      (cases_lt n i),
+)
 round_next p row i body all None false are is at tells before = λ n k lt e h. ⊎_elim
     (λ less. before n k less e h)
     (λ past. let same : n ≡ i = omega (arith, lt, past) in let one = same_Some k body (sym e ∙ ap (slice_get all) same ∙ at) in false≢true (tells.1 (subst (Holds p row) one h)))
     (cases_lt n i)
-round_next p row i body all (Some last) false are is at tells before = (before.0, before.1, λ n k lt e h. ⊎_elim
-    (λ less. before.2 n k less e h)
-    (λ past. let same : n ≡ i = omega (arith, lt, past) in let one = same_Some k body (sym e ∙ ap (slice_get all) same ∙ at) in absurd (false≢true (tells.1 (subst (Holds p row) one h))))
-    (cases_lt n i))
+round_next p row i body all (Some last) false are is at tells before = (
+  before.0,
+  before.1,
+  λ n k lt e h. ⊎_elim
+      (λ less. before.2 n k less e h)
+      (λ past. let same : n ≡ i = omega (arith, lt, past) in let one = same_Some k body (sym e ∙ ap (slice_get all) same ∙ at) in absurd (false≢true (tells.1 (subst (Holds p row) one h))))
+      (cases_lt n i),
+)
 
 -- what all bodies tell
 pub round_found : (p : Rows) (row i : ℕ) (all : List ℕ) (found : Option ℕ) → AreBodies p all → length all ≤ i → IsLastRound p row all i found → IfSome found (λ body. IsBodyRound p row body)
@@ -116,6 +125,9 @@ one_round p row a b h k = let up = h.inner b k.is k.from k.to in let down = k.in
 
 pub rows_few : (project : Project) (m : Meaning) → IsSeen project m → length project.marks.rows.now < 2 ^ 32
 rows_few project m seen = let few = subst (λ p. length p + 3 < 2 ^ 32) seen.rows seen.view.few in omega (arith, few)
+
+pub rows_numbered : (project : Project) (m : Meaning) → IsSeen project m → length project.marks.rows.now < no_row
+rows_numbered project m seen = let few : length project.marks.rows.now + 3 < 4294967296 = subst (λ p. length p + 3 < 2 ^ 32) seen.rows seen.view.few in omega (arith, few)
 
 -- no row stands before its parent
 pub parent_before : (p : Rows) → IsTree p → (n : ℕ) → parent p n ≤ n

@@ -10,7 +10,7 @@ use Rattle.jr_change.specs.declared.project.Project.{Project}
 use Rattle.jr_locks.specs.Origins.{origin_of, row_by}
 use Rattle.jr_flow_defs.specs.Meaning.{Meaning}
 use Rattle.jr_flow_defs.specs.Edges.{body_flow}
-use Rattle.jr_flow_defs.specs.Kept.{KeepsControl, KeepsBody, KeepsInlined, KeepsExtracted, joined_flow}
+use Rattle.jr_flow_defs.specs.Kept.{KeepsControl, KeepsBody, KeepsInlined, KeepsExtracted, IsAssigned, IsReturned, joined_flow, parameters, statement_round}
 use Rattle.jr_flow.specs.Bodies.{has_code}
 use Rattle.jr_flow.specs.Coded.{IsTooLarge}
 use Rattle.jr_flow.specs.Views.{rows_in, IsViewOf}
@@ -102,6 +102,23 @@ pub record KeepsExtractedFlow (p q : Rows) (m w : Meaning) (origin : List ℕ) (
   pub is_method : method < length q
   pub apart : after ≡ method → ⊥
   pub extracted : KeepsExtracted p q m w body after call method (origin_in origin)
+
+-- one table tells what is handed on between the body round the call and the method: the statement of the call stands in the body and holds no parameter of
+-- the method, and one added use at most is returned, one where the call is assigned
+pub record HandsByOne (q : Rows) (w : Meaning) (origin : List ℕ) (call method : ℕ) : Type 0 where
+  pub after : ℕ
+  pub round : IsBodyRound q call after
+  pub behind : after < statement_round q call call
+  pub apart : (i d : ℕ) → slice_get (parameters q method) i ≡ Some d → statement_round q call call < d → d < end q (statement_round q call call) → ⊥
+  pub returned : (d : ℕ) → IsAssigned q (joined_flow q w after call method) call d → (k : ℕ) × IsReturned q (joined_flow q w after call method) method (origin_in origin) k
+  pub one : (j k : ℕ) → IsReturned q (joined_flow q w after call method) method (origin_in origin) j → IsReturned q (joined_flow q w after call method) method (origin_in origin) k → j ≡ k
+
+-- so it is where statements go into a method of their own
+abbrev pub HandsByOneIn : Course → Rows → Meaning → List ℕ → Type 0
+HandsByOneIn (course.Extracted call method) q w origin = HandsByOne q w origin call method
+HandsByOneIn (course.Inlined local statement) q w origin = ⊤
+HandsByOneIn course.Same q w origin = ⊤
+HandsByOneIn (course.Removed range) q w origin = ⊤
 
 -- what is kept where no edge from a definition to a use is lost either; of other changes nothing is told
 abbrev pub KeepsUsesOf : Course → Rows → Rows → Meaning → Meaning → List ℕ → List ℕ → Type 0

@@ -87,13 +87,6 @@ BeginsFirstIn course.Same p m = ⊥
 BeginsFirstIn (course.Removed range) p m = ⊥
 BeginsFirstIn (course.Extracted call method) p m = ⊥
 
--- no statements go into a method of their own
-abbrev pub IsInPlace : Course → Type 0
-IsInPlace course.Same = ⊤
-IsInPlace (course.Removed range) = ⊤
-IsInPlace (course.Inlined local statement) = ⊤
-IsInPlace (course.Extracted call method) = ⊥
-
 -- ---- by points
 
 abbrev pub node_by : PointKind → ℕ → ℕ → Option ℕ

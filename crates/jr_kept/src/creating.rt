@@ -1,5 +1,5 @@
 // What an inlining into a creation loses: its class is initialized before its arguments (JLS 12.4.1, 15.9.4), and was behind the initializer of the local.
-ghost use Rattle.std.specs.Prelude.{◌≡◌, ⊥, ℕ, IfOk, IfSome, None, OnOk, Some};
+ghost use Rattle.std.specs.Prelude.{◌≡◌, ℕ, IfOk, IfSome, None, OnOk, Some};
 ghost use Rattle.std.specs.List.{Contains};
 ghost use Rattle.jr_tree.specs.declared.label.Label.TheVariants as is;
 ghost use Rattle.jr_tree.specs.Rows.{label};

@@ -415,6 +415,8 @@ impl Handing {
     ) -> Result<Handing, OutOfMemory>
         ensures kept { call + 1 < 2 ^ 32 → method + 1 < 2 ^ 32 → kept.statement_round flows.now.rows.now call call + 1 < 2 ^ 32
             → IfOk result (λ handing. AreNone lost.old → handed.IsHandingOf handing flows.now.rows.now flows.now.after.now.points.items call method (origin_in flows.now.origin.now) → AreNone lost.new) }
+        ensures once { call + 1 < 2 ^ 32 → method + 1 < 2 ^ 32 → kept.statement_round flows.now.rows.now call call + 1 < 2 ^ 32
+            → handed.HandsOnce flows.now.span flows.now.rows.now flows.now.after.now.points.items call method (origin_in flows.now.origin.now) → IfOk result (λ handing. AreNone lost.old → AreNone lost.new) }
         ensures checks { call + 1 < 2 ^ 32 → method + 1 < 2 ^ 32 → kept.statement_round flows.now.rows.now call call + 1 < 2 ^ 32
             → IfOk result (λ handing. Checks lost.old lost.new (handed.IsHandingOf handing flows.now.rows.now flows.now.after.now.points.items call method (origin_in flows.now.origin.now))) }
     {

@@ -9,7 +9,9 @@ ghost use Rattle.jr_flow.specs.Reached.{steps_of, IsGraphOf};
 ghost use Rattle.jr_kept.specs.Ordered.{AreNone};
 ghost use Rattle.jr_kept.specs.Compared.{KeepsBodies, KeepsWholeBodies, KeepsJoined, KeepsJoinedUses, KeepsJoinedValues, KeepsJoinedReturns, IsOldBody, IsJoinedGraph, IsMethodGraph};
 ghost use Rattle.jr_kept.specs.Courses as tell;
-ghost use Rattle.jr_kept.specs.Started.{BeginsFirst, BeginsFirstIn, IsInPlace, LeavesStartIn};
+ghost use Rattle.jr_kept.specs.Handed.{HandsOnce};
+ghost use Rattle.jr_kept.specs.Named.{origin_in};
+ghost use Rattle.jr_kept.specs.Started.{BeginsFirst, BeginsFirstIn, LeavesStartIn};
 
 use crate::arriving::put_lost_definitions;
 use crate::carried::put_lost_values;
@@ -235,6 +237,10 @@ fn lost_in_extracted(
         → IfOk result (λ lost. lost.control ≡ None → lost.def_use ≡ None → KeepsJoined flows.now m w call method × KeepsJoinedUses flows.now m w call method × KeepsJoinedValues flows.now w call method × KeepsJoinedReturns flows.now m method) }
     ensures only_control { (m w : Meaning) → IsGraphOf flows.now.names.rows.now m flows.now.before.now → IsJoinedGraph flows.now w call method → IsOldBody flows.now → method + 1 < 2 ^ 32
         → IfOk result (λ lost. KeepsJoined flows.now m w call method → KeepsJoinedReturns flows.now m method → lost.control ≡ None) }
+    ensures only_uses { (m w : Meaning) → IsGraphOf flows.now.names.rows.now m flows.now.before.now → IsJoinedGraph flows.now w call method → IsMethodGraph flows.now.rows.now w inner.now method → (flows.now.after.now.body ≡ method → ⊥)
+        → call + 1 < 2 ^ 32 → method + 1 < 2 ^ 32 → statement_round flows.now.rows.now call call + 1 < 2 ^ 32
+        → HandsOnce flows.now.span flows.now.rows.now flows.now.after.now.points.items call method (origin_in flows.now.origin.now)
+        → IfOk result (λ lost. KeepsJoinedUses flows.now m w call method → KeepsJoinedValues flows.now w call method → lost.def_use ≡ None) }
 {
     let mut control = lost_control(alloc, flows)?;
     put_held_returns(alloc, flows, method, &mut control)?;
@@ -249,7 +255,10 @@ fn lost_in_extracted(
 }
 
 // The rows of two ranges, and those between.
-fn both(one: RowRange, other: RowRange) -> RowRange {
+fn both(one: RowRange, other: RowRange) -> RowRange
+    ensures first { (result.first ≤ one.first) × (result.first ≤ other.first) }
+    ensures end { (one.end ≤ result.end) × (other.end ≤ result.end) }
+{
     RowRange {
         first: one.first.min(other.first),
         end: one.end.max(other.end),
@@ -295,6 +304,8 @@ fn lost_by_extracting(
         → IfOk result (λ lost. lost.control ≡ None → lost.def_use ≡ None → tell.KeepsExtractedFlow old.now.marks.rows.now locked.now.marks.rows.now m w locks.now.origin.items call method) }
     ensures only_control { (m w : Meaning) → tell.IsSeen old.now m → tell.IsSeen locked.now w
         → IfOk result (λ lost. tell.KeepsExtractedControl old.now.marks.rows.now locked.now.marks.rows.now m w locks.now.origin.items call method → lost.control ≡ None) }
+    ensures only_uses { (m w : Meaning) → tell.IsSeen old.now m → tell.IsSeen locked.now w → tell.HandsByOne locked.now.marks.rows.now w locks.now.origin.items call method
+        → IfOk result (λ lost. tell.KeepsExtractedFlow old.now.marks.rows.now locked.now.marks.rows.now m w locks.now.origin.items call method → lost.def_use ≡ None) }
 {
     let rows = locked.marks.rows;
     let Some(copy) = body_round(alloc, rows, call)? else {
@@ -338,7 +349,7 @@ fn lost_by_course(
         → IfOk result (λ lost. lost.control ≡ None → lost.def_use ≡ None → tell.KeepsUsesOf course old.now.marks.rows.now locked.now.marks.rows.now m w locks.now.origin.items locks.now.copy.items) }
     ensures only_control { (m w : Meaning) → tell.IsSeen old.now m → tell.IsSeen locked.now w → (BeginsFirstIn course old.now.marks.rows.now m → ⊥)
         → IfOk result (λ lost. tell.KeepsCourse course old.now.marks.rows.now locked.now.marks.rows.now m w locks.now.origin.items locks.now.copy.items → lost.control ≡ None) }
-    ensures only_uses { (m w : Meaning) → tell.IsSeen old.now m → tell.IsSeen locked.now w → IsInPlace course
+    ensures only_uses { (m w : Meaning) → tell.IsSeen old.now m → tell.IsSeen locked.now w → tell.HandsByOneIn course locked.now.marks.rows.now w locks.now.origin.items
         → IfOk result (λ lost. tell.KeepsUsesOf course old.now.marks.rows.now locked.now.marks.rows.now m w locks.now.origin.items locks.now.copy.items → lost.def_use ≡ None) }
 {
     match course {
@@ -405,7 +416,7 @@ pub fn lost_flow(
     ensures only_control { (m w : Meaning) → tell.IsSeen old.now m → tell.IsSeen locked.now w → (LeavesStartIn change.now.raised old.now.marks.rows.now m → ⊥) → (BeginsFirstIn change.now.course old.now.marks.rows.now m → ⊥)
         → IfOk result (λ lost. tell.KeepsCourse change.now.course old.now.marks.rows.now locked.now.marks.rows.now m w locks.now.origin.items locks.now.copy.items
         → tell.KeepsRaisedControl change.now.raised old.now.marks.rows.now locked.now.marks.rows.now m w locks.now.origin.items locks.now.copy.items → lost.control ≡ None) }
-    ensures only_uses { (m w : Meaning) → tell.IsSeen old.now m → tell.IsSeen locked.now w → IsInPlace change.now.course
+    ensures only_uses { (m w : Meaning) → tell.IsSeen old.now m → tell.IsSeen locked.now w → tell.HandsByOneIn change.now.course locked.now.marks.rows.now w locks.now.origin.items
         → IfOk result (λ lost. tell.KeepsUsesOf change.now.course old.now.marks.rows.now locked.now.marks.rows.now m w locks.now.origin.items locks.now.copy.items
         → tell.KeepsRaisedFlow change.now.raised old.now.marks.rows.now locked.now.marks.rows.now m w locks.now.origin.items locks.now.copy.items → lost.def_use ≡ None) }
 {

@@ -1,6 +1,6 @@
 use Rattle.std.proofs.Common.{◌≡◌, sym, subst, IfOk, None}
-use Rattle.jr_kept.specs.Courses.{KeepsCourse, KeepsUsesOf}
-use Rattle.jr_kept.specs.Started.{BeginsFirstIn, IsInPlace}
+use Rattle.jr_kept.specs.Courses.{HandsByOneIn, KeepsCourse, KeepsUsesOf}
+use Rattle.jr_kept.specs.Started.{BeginsFirstIn}
 use Rattle.jr_kept.proofs.kept.lost_by_course.Goals as goal
 
 pub returns-in-Inlined-clause-control : goal.returns-in-Inlined-clause-control
@@ -33,4 +33,6 @@ returns-in-Extracted-clause-only_control c = λ m w seen other free. let p = c.a
     subst (λ course. IfOk c.lost_by_extracting.result (λ lost. KeepsCourse course p q m w c.args.locks.now.origin.items c.args.locks.now.copy.items → lost.control ≡ None)) (sym c.in-Extracted.is) (c.lost_by_extracting.ensures.only_control m w seen other)
 
 pub returns-in-Extracted-clause-only_uses : goal.returns-in-Extracted-clause-only_uses
-returns-in-Extracted-clause-only_uses c = λ m w seen other here. absurd (subst IsInPlace c.in-Extracted.is here)
+returns-in-Extracted-clause-only_uses c = λ m w seen other hands. let p = c.args.old.now.marks.rows.now in let q = c.args.locked.now.marks.rows.now in
+    subst (λ course. IfOk c.lost_by_extracting.result (λ lost. KeepsUsesOf course p q m w c.args.locks.now.origin.items c.args.locks.now.copy.items → lost.def_use ≡ None)) (sym c.in-Extracted.is)
+    (c.lost_by_extracting.ensures.only_uses m w seen other (subst (λ course. HandsByOneIn course q w c.args.locks.now.origin.items) c.in-Extracted.is hands))
