@@ -18,6 +18,7 @@ pub mod Arrivals
 pub mod Crossing
 pub mod Each
 pub mod Carrying
+pub mod Leaving
 pub mod Losing
 pub mod Below
 pub mod Going
@@ -25,6 +26,6 @@ pub mod Waited
 pub mod AtOnce
 pub mod Upward
 pub mod Moved
-pub mod Starting
+pub mod Begun
 pub mod Throwing
 pub mod Handover

@@ -1,7 +1,7 @@
 use Rattle.std.proofs.Common.{◌≡◌, sym, ◌∙◌}
 use Rattle.jr_tree.specs.declared.label.Label.TheVariants as is
 use Rattle.jr_tree.specs.Rows.{label}
-use Rattle.jr_kept.proofs.Starting.{creation_label, if_some}
+use Rattle.jr_kept.proofs.Begun.{creation_label, if_some}
 use Rattle.jr_kept.proofs.creating.created_at.Goals as goal
 
 pub returns : goal.returns

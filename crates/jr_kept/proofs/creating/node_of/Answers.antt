@@ -1,6 +1,6 @@
 use Rattle.std.proofs.Common.{sym, ◌∙◌}
 use Rattle.std.proofs.lemmas.Result.{IfOk-weaker}
-use Rattle.jr_kept.proofs.Starting.{some_started}
+use Rattle.jr_kept.proofs.Begun.{some_started}
 use Rattle.jr_kept.proofs.creating.node_of.Goals as goal
 
 pub returns : goal.returns

@@ -2,7 +2,7 @@ use Rattle.std.proofs.Common.{◌≡◌, subst, IfSome}
 use Rattle.std.proofs.lemmas.Result.{IfOk-weaker}
 use Rattle.jr_tree.specs.declared.label.Label.TheVariants as is
 use Rattle.jr_tree.specs.Rows.{label}
-use Rattle.jr_kept.proofs.Starting.{creation_told}
+use Rattle.jr_kept.proofs.Begun.{creation_told}
 use Rattle.jr_kept.proofs.creating.node_over.Goals as goal
 
 pub returns : goal.returns

@@ -1,5 +1,5 @@
 use Rattle.std.proofs.lemmas.Result.{IfOk-weaker}
-use Rattle.jr_kept.proofs.Starting.{first_told}
+use Rattle.jr_kept.proofs.Begun.{first_told}
 use Rattle.jr_kept.proofs.creating.node_round_use.Goals as goal
 
 pub returns : goal.returns

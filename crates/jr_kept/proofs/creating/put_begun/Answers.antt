@@ -1,5 +1,5 @@
 use Rattle.jr_kept.specs.Started.{BeginsFirst}
-use Rattle.jr_kept.proofs.Starting.{never_some}
+use Rattle.jr_kept.proofs.Begun.{never_some}
 use Rattle.jr_kept.proofs.creating.put_begun.Goals as goal
 
 pub loop-row-init : goal.loop-row-init

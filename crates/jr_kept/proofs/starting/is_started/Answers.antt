@@ -1,5 +1,5 @@
 use Rattle.std.proofs.Common.{sym, ◌∙◌}
-use Rattle.jr_kept.proofs.Starting.{same_row}
+use Rattle.jr_kept.proofs.Begun.{same_row}
 use Rattle.jr_kept.proofs.starting.is_started.Goals as goal
 
 pub returns : goal.returns

@@ -2,7 +2,7 @@ use Rattle.std.proofs.Common.{subst, IfSome}
 use Rattle.jr_flow_defs.specs.Edges.{body_flow, IsGraph}
 use Rattle.jr_flow.specs.Reached.{steps_of}
 use Rattle.jr_kept.specs.Started.{IsNodeAmong}
-use Rattle.jr_kept.proofs.Starting.{acting_told}
+use Rattle.jr_kept.proofs.Begun.{acting_told}
 use Rattle.jr_kept.proofs.starting.node_in.Goals as goal
 
 pub returns : goal.returns

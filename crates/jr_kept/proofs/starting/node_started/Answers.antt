@@ -1,5 +1,5 @@
 use Rattle.std.proofs.lemmas.Result.{IfOk-weaker}
-use Rattle.jr_kept.proofs.Starting.{started_told}
+use Rattle.jr_kept.proofs.Begun.{started_told}
 use Rattle.jr_kept.proofs.starting.node_started.Goals as goal
 
 pub returns : goal.returns

@@ -1,6 +1,6 @@
 use Rattle.std.proofs.Common.{sym, ◌∙◌, ap}
 use Rattle.jr_supers.specs.Tabled as tabled
-use Rattle.jr_kept.proofs.Starting.{same_declared, same_row}
+use Rattle.jr_kept.proofs.Begun.{same_declared, same_row}
 use Rattle.jr_kept.proofs.starting.refers_to.Goals as goal
 
 pub returns : goal.returns
