@@ -90,7 +90,7 @@ pub crosses_once : (span : RowRange) (crossing : Crossing) (q : Rows) (points : 
     → IfNone crossing.returned ((k : ℕ) → IsAddedAt points method (end q method) origin k → ⊥) → HandsOnce span q points call method origin → CrossesOnce span crossing points origin
 crosses_once span crossing q points call method origin is none hands = record {
   once = λ d j k a b. hands.once d j k (paired d j a) (paired d k b);
-  parameters = λ d k a. hands.parameters d k (paired d k a);
+  parameters = λ d k a. hands.pairs d k (paired d k a);
   assigned = λ d a. let told = hands.assigned d (defined d a) in let k = told.1.0 in (told.0, (k, returned k told.1.1, hands.rows k told.1.1));
   apart = λ d k a b. hands.apart d k (paired d k a) (defined d b);
   one = λ k a. returned k (added k a);
@@ -183,7 +183,7 @@ module _ {B : Type 0} (q : Rows) (g : Flow B) (body : ℕ) (points : List Point)
       → HandsOnce span q points call method origin
   hands_once span outer inner behind before apart returned one = record {
     once = paired_once;
-    parameters = λ d k a. (parameter_within d (parameter_at a.place d a.definition), let b = argument_at a.place k a.used in inside_few call k is_call b.within);
+    pairs = λ d k a. (parameter_within d (parameter_at a.place d a.definition), let b = argument_at a.place k a.used in inside_few call k is_call b.within);
     assigned = λ d a. let is = assigned_out q g body points steps graph call method origin d a in let r = returned d is in (assigned_within d is.inside, (r.0, returned_into q g body points steps graph call method origin r.0 r.1));
     apart = λ d k p a. let is = assigned_out q g body points steps graph call method origin d a in apart p.place d p.definition is.inside.0 is.inside.1;
     one = λ j k a b. one j k (returned_out q g body points steps graph call method origin j a) (returned_out q g body points steps graph call method origin k b);

@@ -186,7 +186,7 @@ pub record CrossesOnce (span : RowRange) (crossing : Crossing) (points : List Po
 -- the same, by the rows of the call and the method
 pub record HandsOnce (span : RowRange) (q : Rows) (points : List Point) (call method : ℕ) (origin : Origin) : Type 0 where
   pub once : ArePairedOnce (parameters q method) (children q call)
-  pub parameters : (d k : ℕ) → IsPaired (parameters q method) (children q call) d k → IsWithin span d × IsRow k
+  pub pairs : (d k : ℕ) → IsPaired (parameters q method) (children q call) d k → IsWithin span d × IsRow k
   pub assigned : (d : ℕ) → IsDefinedAt points (statement_round q call call) (end q (statement_round q call call)) d → IsWithin span d × ((k : ℕ) × IsAddedAt points method (end q method) origin k)
   pub apart : (d k : ℕ) → IsPaired (parameters q method) (children q call) d k → IsDefinedAt points (statement_round q call call) (end q (statement_round q call call)) d → ⊥
   pub one : (j k : ℕ) → IsAddedAt points method (end q method) origin j → IsAddedAt points method (end q method) origin k → j ≡ k
