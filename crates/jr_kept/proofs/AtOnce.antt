@@ -2,6 +2,7 @@
 use Rattle.std.proofs.Common.{◌≡◌, inl, refl, sym, ◌∙◌, ap, ap₂, subst, ⊎_elim, arith, ℕ, zero, suc, ◌<◌, ◌≤◌, Bool, true, false, ◌&&◌, if◌then◌else◌, List, [], ◌∷◌, length, leb, Option, Some, None, nat_eq, slice_get}
 use Rattle.std.proofs.lemmas.Bool.{false≢true}
 use Rattle.std.proofs.lemmas.Bool.Decides.{leb_tells, Decides-eqb, Decides-and}
+use Rattle.std.proofs.lemmas.Option.{same_Some}
 use Rattle.jr_tree.specs.declared.label.Label.{Label}
 use Rattle.jr_tree.specs.declared.label.Label.TheVariants as is
 use Rattle.jr_tree.specs.Rows.{Rows, label, parent, end}
@@ -146,7 +147,7 @@ module _ (p q : Rows) (m : Meaning) (body : ℕ) (tree : IsTree p) (few : body <
 -- where nothing waits nothing is pending ever
 free_told : (p : Rows) (body k : ℕ) (w : Pending) → Waits p body k w → w ≡ [] → IsFree p body k
 free_told p body k w (Waits.none e f) none = body_free p body k (omega (arith, e))
-free_told p body k w (Waits.plainly {n = n} b is h) none u g = free_told p body n w h none u
+free_told p body k w (Waits.plainly {n = n} b is h) none = λ u g. free_told p body n w h none u
     (subst (λ z. Waits p body z u) b.under (waits_above p body k u (λ same. let low = waits_from p body n w h in let behind = b.behind in absurd (omega (arith, low, behind, same))) is g))
 free_told p body k w (Waits.pushed {n = n} {u = v} {c = c} b is e h) none = absurd (no_item c v (sym e ∙ none))
   where

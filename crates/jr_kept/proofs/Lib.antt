@@ -29,3 +29,4 @@ pub mod Moved
 pub mod Begun
 pub mod Throwing
 pub mod Handover
+pub mod Large

@@ -1,10 +1,11 @@
 // What an inlining into a creation loses: its class is initialized before its arguments (JLS 12.4.1, 15.9.4), and was behind the initializer of the local.
-ghost use Rattle.std.specs.Prelude.{◌≡◌, ℕ, IfOk, IfSome, None, OnOk, Some};
+ghost use Rattle.std.specs.Prelude.{◌≡◌, ℕ, IfErr, IfOk, IfSome, None, OnOk, Some};
 ghost use Rattle.std.specs.List.{Contains};
 ghost use Rattle.jr_tree.specs.declared.label.Label.TheVariants as is;
 ghost use Rattle.jr_tree.specs.Rows.{label};
 ghost use Rattle.jr_flow_defs.specs.Meaning.{Meaning};
-ghost use Rattle.jr_kept.specs.Courses.{IsBody, IsSeen};
+ghost use Rattle.jr_flow.specs.Numbered.{OnlyWhere};
+ghost use Rattle.jr_kept.specs.Courses.{HasLarge, IsBody, IsSeen};
 ghost use Rattle.jr_kept.specs.Ordered.{AreNone, OnlyAdds};
 ghost use Rattle.jr_kept.specs.Started as tell;
 
@@ -75,7 +76,8 @@ fn node_of(
     class: u32,
     at: u32,
 ) -> Result<Option<u32>, FlowFault>
-    ensures { (m : Meaning) → IsSeen old.now m → IsBody old.now.marks.rows.now body → IfOk result (λ found. IfSome found (λ row. tell.ActsAtSomeStart old.now.marks.rows.now m)) }
+    ensures acts { (m : Meaning) → IsSeen old.now m → IsBody old.now.marks.rows.now body → IfOk result (λ found. IfSome found (λ row. tell.ActsAtSomeStart old.now.marks.rows.now m)) }
+    ensures large { (m : Meaning) → IsSeen old.now m → IsBody old.now.marks.rows.now body → IfErr result (OnlyWhere (HasLarge old.now.marks.rows.now m)) }
 {
     let Some(other) = initialized_by(old.marks.rows, body) else {
         return Ok(None);
@@ -94,7 +96,8 @@ fn node_among(
     class: u32,
     at: u32,
 ) -> Result<Option<u32>, FlowFault>
-    ensures { (m : Meaning) → IsSeen old.now m → ((k : ℕ) → Contains bodies.now k → IsBody old.now.marks.rows.now k) → IfOk result (λ found. IfSome found (λ row. tell.ActsAtSomeStart old.now.marks.rows.now m)) }
+    ensures acts { (m : Meaning) → IsSeen old.now m → ((k : ℕ) → Contains bodies.now k → IsBody old.now.marks.rows.now k) → IfOk result (λ found. IfSome found (λ row. tell.ActsAtSomeStart old.now.marks.rows.now m)) }
+    ensures large { (m : Meaning) → IsSeen old.now m → ((k : ℕ) → Contains bodies.now k → IsBody old.now.marks.rows.now k) → IfErr result (OnlyWhere (HasLarge old.now.marks.rows.now m)) }
 {
     for body in bodies {
         match node_of(alloc, old, *body, class, at)? {
@@ -107,7 +110,8 @@ fn node_among(
 
 // A node of the initialization that a creation of the class at the row may begin, if there is one.
 fn node_begun(alloc: Global, old: &Project, class: u32, at: u32) -> Result<Option<u32>, FlowFault>
-    ensures { (m : Meaning) → IsSeen old.now m → IfOk result (λ found. IfSome found (λ row. tell.ActsAtSomeStart old.now.marks.rows.now m)) }
+    ensures acts { (m : Meaning) → IsSeen old.now m → IfOk result (λ found. IfSome found (λ row. tell.ActsAtSomeStart old.now.marks.rows.now m)) }
+    ensures large { (m : Meaning) → IsSeen old.now m → IfErr result (OnlyWhere (HasLarge old.now.marks.rows.now m)) }
 {
     let all = bodies(alloc, old.marks.rows)?;
     node_among(alloc, old, &all, class, at)
@@ -115,7 +119,8 @@ fn node_begun(alloc: Global, old: &Project, class: u32, at: u32) -> Result<Optio
 
 // A node that the creation at a row may begin before its arguments, if it is one, for a use among them.
 fn node_over(alloc: Global, old: &Project, over: u32, at: u32) -> Result<Option<u32>, FlowFault>
-    ensures { (m : Meaning) → IsSeen old.now m → IfOk result (λ found. IfSome found (λ row. tell.CreatesAt old.now.marks.rows.now m over)) }
+    ensures creates { (m : Meaning) → IsSeen old.now m → IfOk result (λ found. IfSome found (λ row. tell.CreatesAt old.now.marks.rows.now m over)) }
+    ensures large { (m : Meaning) → IsSeen old.now m → IfErr result (OnlyWhere (HasLarge old.now.marks.rows.now m)) }
 {
     let Some(class) = created_at(old, over) else {
         return Ok(None);
@@ -125,7 +130,8 @@ fn node_over(alloc: Global, old: &Project, over: u32, at: u32) -> Result<Option<
 
 // A node that a creation round the use may begin before its arguments, where the body is the first row above.
 fn node_round(alloc: Global, old: &Project, body: u32, at: u32) -> Result<Option<u32>, FlowFault>
-    ensures { (m : Meaning) → IsSeen old.now m → IfOk result (λ found. IfSome found (λ row. tell.IsInCreation old.now.marks.rows.now m at)) }
+    ensures creates { (m : Meaning) → IsSeen old.now m → IfOk result (λ found. IfSome found (λ row. tell.IsInCreation old.now.marks.rows.now m at)) }
+    ensures large { (m : Meaning) → IsSeen old.now m → IfErr result (OnlyWhere (HasLarge old.now.marks.rows.now m)) }
 {
     let rows = old.marks.rows;
     let mut over = at;
@@ -161,7 +167,8 @@ fn node_round_use(
     local: u32,
     row: u32,
 ) -> Result<Option<u32>, FlowFault>
-    ensures { (m : Meaning) → IsSeen old.now m → IfOk result (λ found. IfSome found (λ node. tell.BeginsFirst old.now.marks.rows.now m local)) }
+    ensures begins { (m : Meaning) → IsSeen old.now m → IfOk result (λ found. IfSome found (λ node. tell.BeginsFirst old.now.marks.rows.now m local)) }
+    ensures large { (m : Meaning) → IsSeen old.now m → IfErr result (OnlyWhere (HasLarge old.now.marks.rows.now m)) }
 {
     if !refers_to(old, row, local) {
         return Ok(None);
@@ -180,6 +187,7 @@ fn put_begun(
 ) -> Result<(), FlowFault>
     ensures adds { OnOk result (OnlyAdds lost.old lost.new) }
     ensures kept { (m : Meaning) → IsSeen old.now m → OnOk result (AreNone lost.old → (tell.BeginsFirst old.now.marks.rows.now m local → ⊥) → AreNone lost.new) }
+    ensures large { (m : Meaning) → IsSeen old.now m → IfErr result (OnlyWhere (HasLarge old.now.marks.rows.now m)) }
 {
     for row in body.first..body.end {
         let second = node_round_use(alloc, old, body.first, local, row)?;
@@ -199,6 +207,7 @@ pub(crate) fn put_delayed(
 ) -> Result<(), FlowFault>
     ensures adds { OnOk result (OnlyAdds lost.old lost.new) }
     ensures kept { (m : Meaning) → IsSeen old.now m → OnOk result (AreNone lost.old → (tell.BeginsFirst old.now.marks.rows.now m local → ⊥) → AreNone lost.new) }
+    ensures large { (m : Meaning) → IsSeen old.now m → IfErr result (OnlyWhere (HasLarge old.now.marks.rows.now m)) }
 {
     let Some(first) = node_of_initializer(graph, rows_of(old.marks.rows, local)) else {
         return Ok(());

@@ -1,10 +1,11 @@
 // What a change loses.
-ghost use Rattle.std.specs.Prelude.{◌≡◌, ◌+◌, ◌<◌, ◌≤◌, ◌^◌, ℕ, None, Decides, IfOk, IfSome, Some, length, true};
+ghost use Rattle.std.specs.Prelude.{◌≡◌, ◌⊎◌, ◌+◌, ◌<◌, ◌≤◌, ◌^◌, ℕ, None, Decides, IfErr, IfOk, IfSome, Some, length, true};
 ghost use Rattle.jr_tree.specs.Rows as tree;
 ghost use Rattle.jr_locks.specs.Origins.{origin_of, row_by};
 ghost use Rattle.jr_flow_defs.specs.Meaning.{Meaning};
 ghost use Rattle.jr_flow_defs.specs.Edges.{IsGraph, body_flow};
 ghost use Rattle.jr_flow_defs.specs.Kept.{IsDisturbed, joined_flow, statement_round};
+ghost use Rattle.jr_flow.specs.Numbered.{OnlyWhere};
 ghost use Rattle.jr_flow.specs.Reached.{steps_of, IsGraphOf};
 ghost use Rattle.jr_kept.specs.Ordered.{AreNone};
 ghost use Rattle.jr_kept.specs.Compared.{KeepsBodies, KeepsWholeBodies, KeepsJoined, KeepsJoinedUses, KeepsJoinedValues, KeepsJoinedReturns, IsOldBody, IsJoinedGraph, IsMethodGraph};
@@ -111,6 +112,7 @@ fn lost_in_inlined(
         → IfOk result (λ lost. KeepsBodies flows.now m w → lost.control ≡ None) }
     ensures only_uses { (m w : Meaning) → IsGraphOf flows.now.names.rows.now m flows.now.before.now → IsGraphOf flows.now.rows.now w flows.now.after.now → local + 1 < 2 ^ 32 → flows.now.before.now.body ≤ local
         → IfOk result (λ lost. KeepsWholeBodies flows.now m w → (IsDisturbed flows.now.names.rows.now (body_flow flows.now.names.rows.now m flows.now.before.now.body) local → ⊥) → lost.def_use ≡ None) }
+    ensures large { (m : Meaning) → tell.IsSeen old.now m → IfErr result (OnlyWhere (tell.HasLarge old.now.marks.rows.now m)) }
 {
     let mut control = lost_control(alloc, flows)?;
     put_delayed(alloc, old, flows.before, local, &mut control)?;
@@ -126,7 +128,8 @@ fn lost_in_inlined(
 
 /// The graph of a body of a project.
 pub(crate) fn graph_of(alloc: Global, project: &Project, body: u32) -> Result<Graph, FlowFault>
-    ensures { (m : Meaning) → tell.IsSeen project.now m → body < length project.now.marks.rows.now → IfOk result (λ made. (made.body ≡ body) × IsGraphOf project.now.marks.rows.now m made) }
+    ensures graph { (m : Meaning) → tell.IsSeen project.now m → body < length project.now.marks.rows.now → IfOk result (λ made. (made.body ≡ body) × IsGraphOf project.now.marks.rows.now m made) }
+    ensures large { (m : Meaning) → tell.IsSeen project.now m → body < length project.now.marks.rows.now → IfErr result (OnlyWhere (tell.HasLarge project.now.marks.rows.now m)) }
 {
     graph(alloc, &project.view, body)
 }
@@ -198,6 +201,7 @@ fn lost_by_inlining(
         → IfOk result (λ lost. tell.KeepsInlinedControl old.now.marks.rows.now locked.now.marks.rows.now m w locks.now.origin.items locks.now.copy.items local statement → lost.control ≡ None) }
     ensures only_uses { (m w : Meaning) → tell.IsSeen old.now m → tell.IsSeen locked.now w
         → IfOk result (λ lost. tell.KeepsInlinedFlow old.now.marks.rows.now locked.now.marks.rows.now m w locks.now.origin.items locks.now.copy.items local statement → lost.def_use ≡ None) }
+    ensures large { (m w : Meaning) → tell.IsSeen old.now m → tell.IsSeen locked.now w → IfErr result (OnlyWhere (tell.HasLarge old.now.marks.rows.now m ⊎ tell.HasLarge locked.now.marks.rows.now w)) }
 {
     let Some(body) = declared_body(alloc, old.marks.rows, local, statement)? else {
         return Ok(lost_at(old, local));
@@ -241,6 +245,7 @@ fn lost_in_extracted(
         → call + 1 < 2 ^ 32 → method + 1 < 2 ^ 32 → statement_round flows.now.rows.now call call + 1 < 2 ^ 32
         → HandsOnce flows.now.span flows.now.rows.now flows.now.after.now.points.items call method (origin_in flows.now.origin.now)
         → IfOk result (λ lost. KeepsJoinedUses flows.now m w call method → KeepsJoinedValues flows.now w call method → lost.def_use ≡ None) }
+    ensures large { IfErr result (OnlyWhere ⊥) }
 {
     let mut control = lost_control(alloc, flows)?;
     put_held_returns(alloc, flows, method, &mut control)?;
@@ -273,7 +278,8 @@ fn joined_graph(
     call: u32,
     inner: &Graph,
 ) -> Result<Graph, FlowFault>
-    ensures { (w : Meaning) (method : ℕ) → tell.IsSeen locked.now w → body < length locked.now.marks.rows.now → IsMethodGraph locked.now.marks.rows.now w inner.now method → (body ≡ method → ⊥)
+    ensures large { (w : Meaning) → tell.IsSeen locked.now w → body < length locked.now.marks.rows.now → IfErr result (OnlyWhere (tell.HasLarge locked.now.marks.rows.now w)) }
+    ensures graph { (w : Meaning) (method : ℕ) → tell.IsSeen locked.now w → body < length locked.now.marks.rows.now → IsMethodGraph locked.now.marks.rows.now w inner.now method → (body ≡ method → ⊥)
         → IfOk result (λ made. (made.body ≡ body) × IsGraph (joined_flow locked.now.marks.rows.now w body call method) body made.points.items (steps_of made)) }
 {
     let outer = graph_of(alloc, locked, body)?;
@@ -306,6 +312,7 @@ fn lost_by_extracting(
         → IfOk result (λ lost. tell.KeepsExtractedControl old.now.marks.rows.now locked.now.marks.rows.now m w locks.now.origin.items call method → lost.control ≡ None) }
     ensures only_uses { (m w : Meaning) → tell.IsSeen old.now m → tell.IsSeen locked.now w → tell.HandsByOne locked.now.marks.rows.now w locks.now.origin.items call method
         → IfOk result (λ lost. tell.KeepsExtractedFlow old.now.marks.rows.now locked.now.marks.rows.now m w locks.now.origin.items call method → lost.def_use ≡ None) }
+    ensures large { (m w : Meaning) → tell.IsSeen old.now m → tell.IsSeen locked.now w → IfErr result (OnlyWhere (tell.HasLarge old.now.marks.rows.now m ⊎ tell.HasLarge locked.now.marks.rows.now w)) }
 {
     let rows = locked.marks.rows;
     let Some(copy) = body_round(alloc, rows, call)? else {
@@ -351,6 +358,7 @@ fn lost_by_course(
         → IfOk result (λ lost. tell.KeepsCourse course old.now.marks.rows.now locked.now.marks.rows.now m w locks.now.origin.items locks.now.copy.items → lost.control ≡ None) }
     ensures only_uses { (m w : Meaning) → tell.IsSeen old.now m → tell.IsSeen locked.now w → tell.HandsByOneIn course locked.now.marks.rows.now w locks.now.origin.items
         → IfOk result (λ lost. tell.KeepsUsesOf course old.now.marks.rows.now locked.now.marks.rows.now m w locks.now.origin.items locks.now.copy.items → lost.def_use ≡ None) }
+    ensures large { (m w : Meaning) → tell.IsSeen old.now m → tell.IsSeen locked.now w → IfErr result (OnlyWhere (tell.HasLarge old.now.marks.rows.now m ⊎ tell.HasLarge locked.now.marks.rows.now w)) }
 {
     match course {
         Course::Same => Ok(nothing()),
@@ -419,6 +427,7 @@ pub fn lost_flow(
     ensures only_uses { (m w : Meaning) → tell.IsSeen old.now m → tell.IsSeen locked.now w → tell.HandsByOneIn change.now.course locked.now.marks.rows.now w locks.now.origin.items
         → IfOk result (λ lost. tell.KeepsUsesOf change.now.course old.now.marks.rows.now locked.now.marks.rows.now m w locks.now.origin.items locks.now.copy.items
         → tell.KeepsRaisedFlow change.now.raised old.now.marks.rows.now locked.now.marks.rows.now m w locks.now.origin.items locks.now.copy.items → lost.def_use ≡ None) }
+    ensures large { (m w : Meaning) → tell.IsSeen old.now m → tell.IsSeen locked.now w → IfErr result (OnlyWhere (tell.HasLarge old.now.marks.rows.now m ⊎ tell.HasLarge locked.now.marks.rows.now w)) }
 {
     let raised = lost_by_raising(alloc, old, locked, locks, change.raised)?;
     let ordered = lost_by_course(alloc, old, locked, locks, change.course)?;

@@ -1,6 +1,7 @@
 // What a pull up loses.
-ghost use Rattle.std.specs.Prelude.{◌≡◌, None, IfOk};
+ghost use Rattle.std.specs.Prelude.{◌≡◌, ◌⊎◌, None, IfErr, IfOk};
 ghost use Rattle.jr_flow_defs.specs.Meaning.{Meaning};
+ghost use Rattle.jr_flow.specs.Numbered.{OnlyWhere};
 ghost use Rattle.jr_flow.specs.Reached.{IsGraphOf};
 ghost use Rattle.jr_kept.specs.Compared.{KeepsBodies, KeepsWholeBodies};
 ghost use Rattle.jr_kept.specs.Courses as tell;
@@ -24,6 +25,7 @@ fn lost_in_moved(alloc: Global, old: &Project, flows: &Flows) -> Result<LostFlow
     ensures uses { (m w : Meaning) → IsGraphOf flows.now.names.rows.now m flows.now.before.now → IsGraphOf flows.now.rows.now w flows.now.after.now → IfOk result (λ lost. lost.control ≡ None → lost.def_use ≡ None → KeepsWholeBodies flows.now m w) }
     ensures only_control { (m w : Meaning) → IsGraphOf flows.now.names.rows.now m flows.now.before.now → IsGraphOf flows.now.rows.now w flows.now.after.now → IfOk result (λ lost. KeepsBodies flows.now m w → lost.control ≡ None) }
     ensures only_uses { (m w : Meaning) → IsGraphOf flows.now.names.rows.now m flows.now.before.now → IsGraphOf flows.now.rows.now w flows.now.after.now → IfOk result (λ lost. KeepsWholeBodies flows.now m w → lost.def_use ≡ None) }
+    ensures large { IfErr result (OnlyWhere ⊥) }
 {
     let control = lost_control(alloc, flows)?;
     let mut lost = Firsts::none();
@@ -51,6 +53,7 @@ fn lost_by_moving(
         → IfOk result (λ lost. tell.KeepsMovedControl old.now.marks.rows.now locked.now.marks.rows.now m w locks.now.origin.items locks.now.copy.items method → lost.control ≡ None) }
     ensures only_uses { (m w : Meaning) → tell.IsSeen old.now m → tell.IsSeen locked.now w
         → IfOk result (λ lost. tell.KeepsMovedFlow old.now.marks.rows.now locked.now.marks.rows.now m w locks.now.origin.items locks.now.copy.items method → lost.def_use ≡ None) }
+    ensures large { (m w : Meaning) → tell.IsSeen old.now m → tell.IsSeen locked.now w → IfErr result (OnlyWhere (tell.HasLarge old.now.marks.rows.now m ⊎ tell.HasLarge locked.now.marks.rows.now w)) }
 {
     if !is_row(old.marks.rows, method) {
         return Ok(lost_at(old, method));
@@ -92,6 +95,7 @@ fn lost_by_pull_up(
         → IfOk result (λ lost. tell.KeepsMovedControl old.now.marks.rows.now locked.now.marks.rows.now m w locks.now.origin.items locks.now.copy.items raised.method.first → (LeavesStart old.now.marks.rows.now m raised → ⊥) → lost.control ≡ None) }
     ensures only_uses { (m w : Meaning) → tell.IsSeen old.now m → tell.IsSeen locked.now w
         → IfOk result (λ lost. tell.KeepsMovedFlow old.now.marks.rows.now locked.now.marks.rows.now m w locks.now.origin.items locks.now.copy.items raised.method.first → lost.def_use ≡ None) }
+    ensures large { (m w : Meaning) → tell.IsSeen old.now m → tell.IsSeen locked.now w → IfErr result (OnlyWhere (tell.HasLarge old.now.marks.rows.now m ⊎ tell.HasLarge locked.now.marks.rows.now w)) }
 {
     match lost_initialization(alloc, old, raised)? {
         Some(edge) => Ok(LostFlow {
@@ -118,6 +122,7 @@ pub(crate) fn lost_by_raising(
         → IfOk result (λ lost. tell.KeepsRaisedControl raised old.now.marks.rows.now locked.now.marks.rows.now m w locks.now.origin.items locks.now.copy.items → (LeavesStartIn raised old.now.marks.rows.now m → ⊥) → lost.control ≡ None) }
     ensures only_uses { (m w : Meaning) → tell.IsSeen old.now m → tell.IsSeen locked.now w
         → IfOk result (λ lost. tell.KeepsRaisedFlow raised old.now.marks.rows.now locked.now.marks.rows.now m w locks.now.origin.items locks.now.copy.items → lost.def_use ≡ None) }
+    ensures large { (m w : Meaning) → tell.IsSeen old.now m → tell.IsSeen locked.now w → IfErr result (OnlyWhere (tell.HasLarge old.now.marks.rows.now m ⊎ tell.HasLarge locked.now.marks.rows.now w)) }
 {
     match raised {
         Some(raised) => lost_by_pull_up(alloc, old, locked, locks, raised),

@@ -1,9 +1,10 @@
 // What a pull up of a static method loses: a call of it initializes the class that it leaves no more (JLS 12.4.1).
-ghost use Rattle.std.specs.Prelude.{◌≡◌, ◌<◌, ℕ, IfOk, IfSome, Some, length, true};
+ghost use Rattle.std.specs.Prelude.{◌≡◌, ◌<◌, ℕ, IfErr, IfOk, IfSome, Some, length, true};
 ghost use Rattle.std.specs.List.{Contains};
 ghost use Rattle.jr_tree.specs.Rows.{label};
 ghost use Rattle.jr_flow_defs.specs.Meaning.{Meaning, declared};
-ghost use Rattle.jr_kept.specs.Courses.{IsBody, IsSeen};
+ghost use Rattle.jr_flow.specs.Numbered.{OnlyWhere};
+ghost use Rattle.jr_kept.specs.Courses.{HasLarge, IsBody, IsSeen};
 ghost use Rattle.jr_kept.specs.Started as tell;
 
 use crate::edges::Edge;
@@ -71,7 +72,8 @@ fn node_among(points: &[Point], body: u32) -> Option<u32>
 
 /// A node of a body, if it has one but its own declaration.
 pub(crate) fn node_in(alloc: Global, old: &Project, body: u32) -> Result<Option<u32>, FlowFault>
-    ensures { (m : Meaning) → IsSeen old.now m → body < length old.now.marks.rows.now → IfOk result (λ found. IfSome found (λ row. tell.IsActing old.now.marks.rows.now m body row)) }
+    ensures acts { (m : Meaning) → IsSeen old.now m → body < length old.now.marks.rows.now → IfOk result (λ found. IfSome found (λ row. tell.IsActing old.now.marks.rows.now m body row)) }
+    ensures large { (m : Meaning) → IsSeen old.now m → body < length old.now.marks.rows.now → IfErr result (OnlyWhere (HasLarge old.now.marks.rows.now m)) }
 {
     let flow = graph_of(alloc, old, body)?;
     Ok(node_among(flow.points.as_slice(), body))
@@ -91,7 +93,8 @@ fn node_started(
     body: u32,
     class: u32,
 ) -> Result<Option<u32>, FlowFault>
-    ensures { (m : Meaning) → IsSeen old.now m → IsBody old.now.marks.rows.now body → IfOk result (λ found. IfSome found (λ row. tell.ActsAtStart old.now.marks.rows.now m class)) }
+    ensures acts { (m : Meaning) → IsSeen old.now m → IsBody old.now.marks.rows.now body → IfOk result (λ found. IfSome found (λ row. tell.ActsAtStart old.now.marks.rows.now m class)) }
+    ensures large { (m : Meaning) → IsSeen old.now m → IsBody old.now.marks.rows.now body → IfErr result (OnlyWhere (HasLarge old.now.marks.rows.now m)) }
 {
     if !is_started(old.marks.rows, body, class) {
         return Ok(None);
@@ -106,7 +109,8 @@ fn node_of_bodies(
     bodies: &[u32],
     class: u32,
 ) -> Result<Option<u32>, FlowFault>
-    ensures { (m : Meaning) → IsSeen old.now m → ((k : ℕ) → Contains bodies.now k → IsBody old.now.marks.rows.now k) → IfOk result (λ found. IfSome found (λ row. tell.ActsAtStart old.now.marks.rows.now m class)) }
+    ensures acts { (m : Meaning) → IsSeen old.now m → ((k : ℕ) → Contains bodies.now k → IsBody old.now.marks.rows.now k) → IfOk result (λ found. IfSome found (λ row. tell.ActsAtStart old.now.marks.rows.now m class)) }
+    ensures large { (m : Meaning) → IsSeen old.now m → ((k : ℕ) → Contains bodies.now k → IsBody old.now.marks.rows.now k) → IfErr result (OnlyWhere (HasLarge old.now.marks.rows.now m)) }
 {
     for body in bodies {
         match node_started(alloc, old, *body, class)? {
@@ -119,7 +123,8 @@ fn node_of_bodies(
 
 // A node of the initialization of a class, if it has one.
 fn node_of_class(alloc: Global, old: &Project, class: u32) -> Result<Option<u32>, FlowFault>
-    ensures { (m : Meaning) → IsSeen old.now m → IfOk result (λ found. IfSome found (λ row. tell.ActsAtStart old.now.marks.rows.now m class)) }
+    ensures acts { (m : Meaning) → IsSeen old.now m → IfOk result (λ found. IfSome found (λ row. tell.ActsAtStart old.now.marks.rows.now m class)) }
+    ensures large { (m : Meaning) → IsSeen old.now m → IfErr result (OnlyWhere (HasLarge old.now.marks.rows.now m)) }
 {
     let all = bodies(alloc, old.marks.rows)?;
     node_of_bodies(alloc, old, &all, class)
@@ -180,7 +185,8 @@ pub(crate) fn lost_initialization(
     old: &Project,
     raised: Raised,
 ) -> Result<Option<Edge>, FlowFault>
-    ensures { (m : Meaning) → IsSeen old.now m → IfOk result (λ found. IfSome found (λ edge. tell.LeavesStart old.now.marks.rows.now m raised)) }
+    ensures leaves { (m : Meaning) → IsSeen old.now m → IfOk result (λ found. IfSome found (λ edge. tell.LeavesStart old.now.marks.rows.now m raised)) }
+    ensures large { (m : Meaning) → IsSeen old.now m → IfErr result (OnlyWhere (HasLarge old.now.marks.rows.now m)) }
 {
     if !is_static(old.marks.rows, raised.method.first) {
         return Ok(None);

@@ -1,13 +1,15 @@
-use Rattle.std.proofs.Common.{◌≡◌, ℕ, ◌<◌, ◌≤◌, arith, sym, ◌∙◌, subst, length, Some, IfSome, None}
+use Rattle.std.proofs.Common.{◌≡◌, ℕ, ◌<◌, ◌≤◌, arith, sym, ◌∙◌, subst, length, Some, IfSome, None, ◌⊎◌, inl, inr}
 use Rattle.std.proofs.lemmas.Bool.{false≢true}
 use Rattle.std.proofs.lemmas.Option.{same_Some}
 use Rattle.std.proofs.lemmas.Result.{IfOk-weaker}
+use Rattle.std.proofs.lemmas.Result.{err_from_is_err_and}
 use Rattle.jr_flow_defs.specs.Edges.{body_flow, IsGraph}
 use Rattle.jr_flow_defs.specs.Kept.{KeepsControl, KeepsDefinitions, Hands, IsHanding, IsAssigned, IsReturned, IsLost, joined_flow, statement_round}
 use Rattle.jr_flow.specs.Reached.{steps_of}
 use Rattle.jr_locks.specs.Origins.{origin_of, row_by}
 use Rattle.jr_kept.specs.Named.{origin_in}
-use Rattle.jr_kept.specs.Courses.{IsBodyRound}
+use Rattle.jr_kept.specs.Courses.{IsBodyRound, HasLarge}
+use Rattle.jr_kept.proofs.Large.{only_where, large_err}
 use Rattle.jr_kept.specs.Handed.{HandsOnce}
 use Rattle.jr_kept.proofs.Handover.{hands_once}
 use Rattle.jr_kept.specs.Returned.{ReturnAtOnce}
@@ -33,8 +35,8 @@ returns-clause-control c = λ m w seen other. let p = c.args.old.now.marks.rows.
     let round : IsBodyRound q call after = subst (λ o. IfSome o (λ k. IsBodyRound q call k)) c.in-Some.is (c.in_ok-copy.ensures.round (rows_few c.args.locked.now w other)) in
     let copy : (row_by (origin_of origin after) ≡ Some body) × (body < length p) = subst (λ o. IfSome o (λ k. (row_by (origin_of origin after) ≡ Some k) × (k < length p))) c.in-Some-row_among.is (subst (λ xs. IfSome c.row_among.result (λ k. (row_by (origin_of xs after) ≡ Some k) × (k < length p))) c.deref.ensures.value c.row_among.ensures.some) in
     let is_row = c.is_apart.ensures.row c.if-not-is_apart.false in let few = rows_few c.args.locked.now w other in let other_body = c.is_apart.ensures.apart c.if-not-is_apart.false in
-    let before_graph = c.in_ok-before.ensures m seen copy.1 in
-    let after_graph = c.in_ok-after.ensures w method other round.is.few (c.in_ok-inner.ensures w other is_row) other_body in
+    let before_graph = c.in_ok-before.ensures.graph m seen copy.1 in
+    let after_graph = c.in_ok-after.ensures.graph w method other round.is.few (c.in_ok-inner.ensures.graph w other is_row) other_body in
     IfOk-weaker c.lost_in_extracted.result _ _ (λ lost keeps none.
     let both = keeps none in
     record {
@@ -58,8 +60,8 @@ returns-clause-uses c = λ m w seen other. let p = c.args.old.now.marks.rows.now
     let call = c.args.call in let method = c.args.method in let after = c.in-Some.copy in let body = c.in-Some-row_among.body in let joined = c.in_ok-after.after in
     let round : IsBodyRound q call after = subst (λ o. IfSome o (λ k. IsBodyRound q call k)) c.in-Some.is (c.in_ok-copy.ensures.round (rows_few c.args.locked.now w other)) in
     let copy : (row_by (origin_of origin after) ≡ Some body) × (body < length p) = subst (λ o. IfSome o (λ k. (row_by (origin_of origin after) ≡ Some k) × (k < length p))) c.in-Some-row_among.is (subst (λ xs. IfSome c.row_among.result (λ k. (row_by (origin_of xs after) ≡ Some k) × (k < length p))) c.deref.ensures.value c.row_among.ensures.some) in
-    let before_graph = c.in_ok-before.ensures m seen copy.1 in let is_row = c.is_apart.ensures.row c.if-not-is_apart.false in
-    let alone = c.in_ok-inner.ensures w other is_row in let after_graph = c.in_ok-after.ensures w method other round.is.few alone (c.is_apart.ensures.apart c.if-not-is_apart.false) in
+    let before_graph = c.in_ok-before.ensures.graph m seen copy.1 in let is_row = c.is_apart.ensures.row c.if-not-is_apart.false in
+    let alone = c.in_ok-inner.ensures.graph w other is_row in let after_graph = c.in_ok-after.ensures.graph w method other round.is.few alone (c.is_apart.ensures.apart c.if-not-is_apart.false) in
     let few = rows_few c.args.locked.now w other in let last = other.tree.last after round.is.few in let to = round.to in
     let up : statement_round q call call ≤ call = statement_before q (parent_before q other.tree) call call in
     IfOk-weaker c.lost_in_extracted.result _ _ (λ lost keeps none no_use.
@@ -108,8 +110,8 @@ returns-clause-only_control c = λ m w seen other. let p = c.args.old.now.marks.
     let round : IsBodyRound q call after = subst (λ o. IfSome o (λ k. IsBodyRound q call k)) c.in-Some.is (c.in_ok-copy.ensures.round (rows_few c.args.locked.now w other)) in
     let copy : (row_by (origin_of origin after) ≡ Some body) × (body < length p) = subst (λ o. IfSome o (λ k. (row_by (origin_of origin after) ≡ Some k) × (k < length p))) c.in-Some-row_among.is (subst (λ xs. IfSome c.row_among.result (λ k. (row_by (origin_of xs after) ≡ Some k) × (k < length p))) c.deref.ensures.value c.row_among.ensures.some) in
     let is_row = c.is_apart.ensures.row c.if-not-is_apart.false in let few = rows_few c.args.locked.now w other in let other_body = c.is_apart.ensures.apart c.if-not-is_apart.false in
-    let before_graph = c.in_ok-before.ensures m seen copy.1 in
-    let after_graph = c.in_ok-after.ensures w method other round.is.few (c.in_ok-inner.ensures w other is_row) other_body in
+    let before_graph = c.in_ok-before.ensures.graph m seen copy.1 in
+    let after_graph = c.in_ok-after.ensures.graph w method other round.is.few (c.in_ok-inner.ensures.graph w other is_row) other_body in
     IfOk-weaker c.lost_in_extracted.result _ _ (λ lost only keeps.
     let same = one_round q call keeps.after after keeps.round round in
     let same_body = same_Some keeps.body body (sym (subst (λ k. row_by (origin_of origin k) ≡ Some keeps.body) same keeps.is_copy) ∙ copy.0) in
@@ -133,8 +135,8 @@ returns-clause-only_uses c = λ m w seen other hands. let p = c.args.old.now.mar
     let round : IsBodyRound q call after = subst (λ o. IfSome o (λ k. IsBodyRound q call k)) c.in-Some.is (c.in_ok-copy.ensures.round (rows_few c.args.locked.now w other)) in
     let copy : (row_by (origin_of origin after) ≡ Some body) × (body < length p) = subst (λ o. IfSome o (λ k. (row_by (origin_of origin after) ≡ Some k) × (k < length p))) c.in-Some-row_among.is (subst (λ xs. IfSome c.row_among.result (λ k. (row_by (origin_of xs after) ≡ Some k) × (k < length p))) c.deref.ensures.value c.row_among.ensures.some) in
     let is_row = c.is_apart.ensures.row c.if-not-is_apart.false in let few = rows_few c.args.locked.now w other in let other_body = c.is_apart.ensures.apart c.if-not-is_apart.false in
-    let before_graph = c.in_ok-before.ensures m seen copy.1 in
-    let after_graph = c.in_ok-after.ensures w method other round.is.few (c.in_ok-inner.ensures w other is_row) other_body in
+    let before_graph = c.in_ok-before.ensures.graph m seen copy.1 in
+    let after_graph = c.in_ok-after.ensures.graph w method other round.is.few (c.in_ok-inner.ensures.graph w other is_row) other_body in
     let last = other.tree.last after round.is.few in let to = round.to in let few_call = omega (arith, few, last, to) in
     let up : statement_round q call call ≤ call = statement_before q (parent_before q other.tree) call call in
     let is_few = round.is.few in
@@ -157,5 +159,21 @@ returns-clause-only_uses c = λ m w seen other hands. let p = c.args.old.now.mar
     (subst (λ n. IsLost q w (joined_flow q w n call method) call method (origin_in c.as_slice.result.now) → ⊥) (same ∙ sym after_graph.0)
     (subst (λ os. IsLost q w (joined_flow q w keeps.after call method) call method (origin_in os) → ⊥) (sym c.as_slice.ensures.value) keeps.extracted.unlost)))
     (c.lost_in_extracted.ensures.only_uses m w before_graph.1
-    (subst (λ n. IsGraph (joined_flow q w n call method) n joined.points.items (steps_of joined)) (sym after_graph.0) after_graph.1) (c.in_ok-inner.ensures w other is_row) (λ e. other_body (sym after_graph.0 ∙ e))
+    (subst (λ n. IsGraph (joined_flow q w n call method) n joined.points.items (steps_of joined)) (sym after_graph.0) after_graph.1) (c.in_ok-inner.ensures.graph w other is_row) (λ e. other_body (sym after_graph.0 ∙ e))
     few_call (omega (arith, few, is_row)) (omega (arith, few, last, to, up)) (subst (λ os. HandsOnce c.both.result q joined.points.items call method (origin_in os)) (sym c.as_slice.ensures.value) once))
+
+pub returns-in_err-before-clause-large : goal.returns-in_err-before-clause-large
+returns-in_err-before-clause-large c = λ m w seen other. let p = c.args.old.now.marks.rows.now in let origin = c.args.locks.now.origin.items in let after = c.in-Some.copy in
+    let copy : (row_by (origin_of origin after) ≡ Some c.in-Some-row_among.body) × (c.in-Some-row_among.body < length p) = subst (λ o. IfSome o (λ k. (row_by (origin_of origin after) ≡ Some k) × (k < length p))) c.in-Some-row_among.is (subst (λ xs. IfSome c.row_among.result (λ k. (row_by (origin_of xs after) ≡ Some k) × (k < length p))) c.deref.ensures.value c.row_among.ensures.some) in
+    let q = err_from_is_err_and c.from_residual-in_err-before.result c.from_residual-in_err-before.ensures.1 in rw (q.1, q.2) (only_where (HasLarge c.args.old.now.marks.rows.now m) (HasLarge c.args.old.now.marks.rows.now m ⊎ HasLarge c.args.locked.now.marks.rows.now w) c.in_err-before.field-0.0 (λ h. inl h) (c.in_err-before.ensures.large m seen copy.1))
+
+pub returns-in_err-inner-clause-large : goal.returns-in_err-inner-clause-large
+returns-in_err-inner-clause-large c = λ m w seen other. let q = err_from_is_err_and c.from_residual-in_err-inner.result c.from_residual-in_err-inner.ensures.1 in rw (q.1, q.2) (only_where (HasLarge c.args.locked.now.marks.rows.now w) (HasLarge c.args.old.now.marks.rows.now m ⊎ HasLarge c.args.locked.now.marks.rows.now w) c.in_err-inner.field-0.0 (λ h. inr h) (c.in_err-inner.ensures.large w other (c.is_apart.ensures.row c.if-not-is_apart.false)))
+
+pub returns-in_err-after-clause-large : goal.returns-in_err-after-clause-large
+returns-in_err-after-clause-large c = λ m w seen other. let q = c.args.locked.now.marks.rows.now in let call = c.args.call in
+    let round : IsBodyRound q call c.in-Some.copy = subst (λ o. IfSome o (λ k. IsBodyRound q call k)) c.in-Some.is (c.in_ok-copy.ensures.round (rows_few c.args.locked.now w other)) in
+    let q = err_from_is_err_and c.from_residual-in_err-after.result c.from_residual-in_err-after.ensures.1 in rw (q.1, q.2) (only_where (HasLarge c.args.locked.now.marks.rows.now w) (HasLarge c.args.old.now.marks.rows.now m ⊎ HasLarge c.args.locked.now.marks.rows.now w) c.in_err-after.field-0.0 (λ h. inr h) (c.in_err-after.ensures.large w other round.is.few))
+
+pub returns-clause-large : goal.returns-clause-large
+returns-clause-large c = λ m w seen other. large_err c.lost_in_extracted.result ⊥ (HasLarge c.args.old.now.marks.rows.now m ⊎ HasLarge c.args.locked.now.marks.rows.now w) (λ h. absurd h) c.lost_in_extracted.ensures.large

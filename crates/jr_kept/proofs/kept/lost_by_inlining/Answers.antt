@@ -1,12 +1,14 @@
-use Rattle.std.proofs.Common.{◌≡◌, arith, sym, ◌∙◌, ◌<◌, ap, subst, length, Some, IfSome}
+use Rattle.std.proofs.Common.{◌≡◌, arith, sym, ◌∙◌, ◌<◌, ap, subst, length, Some, IfSome, ◌⊎◌, inl, inr}
 use Rattle.std.proofs.lemmas.Option.{same_Some}
 use Rattle.std.proofs.lemmas.Result.{IfOk-weaker}
+use Rattle.std.proofs.lemmas.Result.{err_from_is_err_and}
 use Rattle.jr_tree.specs.Rows.{parent}
 use Rattle.jr_flow_defs.specs.Edges.{body_flow}
 use Rattle.jr_flow_defs.specs.Kept.{KeepsControl, KeepsBody, IsDisturbed}
 use Rattle.jr_locks.specs.Origins.{origin_of, row_by}
 use Rattle.jr_kept.specs.Named.{origin_in}
-use Rattle.jr_kept.specs.Courses.{IsBodyRound, dropped_by}
+use Rattle.jr_kept.specs.Courses.{IsBodyRound, HasLarge, dropped_by}
+use Rattle.jr_kept.proofs.Large.{only_where, large_err}
 use Rattle.jr_kept.proofs.Rounding.{rows_few, one_round}
 use Rattle.jr_kept.proofs.kept.lost_by_inlining.Goals as goal
 
@@ -21,7 +23,7 @@ returns-clause-control c = λ m w seen other. let p = c.args.old.now.marks.rows.
     let local = c.args.local in let statement = c.args.statement in let body = c.in-Some.body in let after = c.in-Some-row_among.copy in
     let found : IsBodyRound p local body × (parent p local ≡ statement) = subst (λ o. IfSome o (λ k. IsBodyRound p local k × (parent p local ≡ statement))) c.in-Some.is (c.in_ok-body.ensures.round (rows_few c.args.old.now m seen)) in let round = found.0 in
     let copy : (row_by (origin_of copies body) ≡ Some after) × (after < length q) = subst (λ o. IfSome o (λ k. (row_by (origin_of copies body) ≡ Some k) × (k < length q))) c.in-Some-row_among.is (subst (λ xs. IfSome c.row_among.result (λ k. (row_by (origin_of xs body) ≡ Some k) × (k < length q))) c.deref.ensures.value c.row_among.ensures.some) in
-    let before_graph = c.in_ok-before.ensures m seen round.is.few in let after_graph = c.in_ok-after.ensures w other copy.1 in
+    let before_graph = c.in_ok-before.ensures.graph m seen round.is.few in let after_graph = c.in_ok-after.ensures.graph w other copy.1 in
     IfOk-weaker c.lost_in_inlined.result _ _ (λ lost keeps none. record {
       body = body;
       after = after;
@@ -40,7 +42,7 @@ returns-clause-uses c = λ m w seen other. let p = c.args.old.now.marks.rows.now
     let local = c.args.local in let statement = c.args.statement in let body = c.in-Some.body in let after = c.in-Some-row_among.copy in
     let found : IsBodyRound p local body × (parent p local ≡ statement) = subst (λ o. IfSome o (λ k. IsBodyRound p local k × (parent p local ≡ statement))) c.in-Some.is (c.in_ok-body.ensures.round (rows_few c.args.old.now m seen)) in let round = found.0 in
     let copy : (row_by (origin_of copies body) ≡ Some after) × (after < length q) = subst (λ o. IfSome o (λ k. (row_by (origin_of copies body) ≡ Some k) × (k < length q))) c.in-Some-row_among.is (subst (λ xs. IfSome c.row_among.result (λ k. (row_by (origin_of xs body) ≡ Some k) × (k < length q))) c.deref.ensures.value c.row_among.ensures.some) in
-    let before_graph = c.in_ok-before.ensures m seen round.is.few in let after_graph = c.in_ok-after.ensures w other copy.1 in
+    let before_graph = c.in_ok-before.ensures.graph m seen round.is.few in let after_graph = c.in_ok-after.ensures.graph w other copy.1 in
     let few = rows_few c.args.old.now m seen in let last = seen.tree.last body round.is.few in let to = round.to in
     IfOk-weaker c.lost_in_inlined.result _ _ (λ lost keeps none no_use.
     let both = keeps none no_use in
@@ -78,7 +80,7 @@ returns-clause-only_control c = λ m w seen other free. let p = c.args.old.now.m
     let local = c.args.local in let statement = c.args.statement in let body = c.in-Some.body in let after = c.in-Some-row_among.copy in let now = c.in_ok-after.after.body in
     let found : IsBodyRound p local body × (parent p local ≡ statement) = subst (λ o. IfSome o (λ k. IsBodyRound p local k × (parent p local ≡ statement))) c.in-Some.is (c.in_ok-body.ensures.round (rows_few c.args.old.now m seen)) in let round = found.0 in
     let copy : (row_by (origin_of copies body) ≡ Some after) × (after < length q) = subst (λ o. IfSome o (λ k. (row_by (origin_of copies body) ≡ Some k) × (k < length q))) c.in-Some-row_among.is (subst (λ xs. IfSome c.row_among.result (λ k. (row_by (origin_of xs body) ≡ Some k) × (k < length q))) c.deref.ensures.value c.row_among.ensures.some) in
-    let before_graph = c.in_ok-before.ensures m seen round.is.few in let after_graph = c.in_ok-after.ensures w other copy.1 in
+    let before_graph = c.in_ok-before.ensures.graph m seen round.is.few in let after_graph = c.in_ok-after.ensures.graph w other copy.1 in
     IfOk-weaker c.lost_in_inlined.result _ _ (λ lost only keeps.
     let same = one_round p local keeps.body body keeps.round round in
     let same_after = same_Some keeps.after after (sym (subst (λ k. row_by (origin_of copies k) ≡ Some keeps.after) same keeps.is_copy) ∙ copy.0) in
@@ -93,7 +95,7 @@ returns-clause-only_uses c = λ m w seen other. let p = c.args.old.now.marks.row
     let local = c.args.local in let statement = c.args.statement in let body = c.in-Some.body in let after = c.in-Some-row_among.copy in let now = c.in_ok-after.after.body in
     let found : IsBodyRound p local body × (parent p local ≡ statement) = subst (λ o. IfSome o (λ k. IsBodyRound p local k × (parent p local ≡ statement))) c.in-Some.is (c.in_ok-body.ensures.round (rows_few c.args.old.now m seen)) in let round = found.0 in
     let copy : (row_by (origin_of copies body) ≡ Some after) × (after < length q) = subst (λ o. IfSome o (λ k. (row_by (origin_of copies body) ≡ Some k) × (k < length q))) c.in-Some-row_among.is (subst (λ xs. IfSome c.row_among.result (λ k. (row_by (origin_of xs body) ≡ Some k) × (k < length q))) c.deref.ensures.value c.row_among.ensures.some) in
-    let before_graph = c.in_ok-before.ensures m seen round.is.few in let after_graph = c.in_ok-after.ensures w other copy.1 in
+    let before_graph = c.in_ok-before.ensures.graph m seen round.is.few in let after_graph = c.in_ok-after.ensures.graph w other copy.1 in
     let few = rows_few c.args.old.now m seen in let last = seen.tree.last body round.is.few in let to = round.to in let from = round.from in let graph_is = before_graph.0 in
     IfOk-weaker c.lost_in_inlined.result _ _ (λ lost only keeps.
     let same = one_round p local keeps.body body keeps.round round in
@@ -104,3 +106,16 @@ returns-clause-only_uses c = λ m w seen other. let p = c.args.old.now.marks.row
     (subst (λ d. KeepsBody p q (body_flow p m keeps.body) (body_flow q w keeps.after) keeps.body keeps.after d (origin_in origin)) (sym (c.dropped.ensures ∙ ap (λ xs. dropped_by (row_by (origin_of xs statement)) statement) c.deref-2.ensures.value)) keeps.inlined.kept))))
     (subst (λ n. IsDisturbed p (body_flow p m n) local → ⊥) (same ∙ sym before_graph.0) keeps.inlined.undisturbed))
     (c.lost_in_inlined.ensures.only_uses m w before_graph.1 after_graph.1 (omega (arith, few, last, to)) (omega (arith, graph_is, from)))
+
+pub returns-in_err-before-clause-large : goal.returns-in_err-before-clause-large
+returns-in_err-before-clause-large c = λ m w seen other. let p = c.args.old.now.marks.rows.now in let local = c.args.local in let statement = c.args.statement in
+    let found : IsBodyRound p local c.in-Some.body × (parent p local ≡ statement) = subst (λ o. IfSome o (λ k. IsBodyRound p local k × (parent p local ≡ statement))) c.in-Some.is (c.in_ok-body.ensures.round (rows_few c.args.old.now m seen)) in
+    let q = err_from_is_err_and c.from_residual-in_err-before.result c.from_residual-in_err-before.ensures.1 in rw (q.1, q.2) (only_where (HasLarge c.args.old.now.marks.rows.now m) (HasLarge c.args.old.now.marks.rows.now m ⊎ HasLarge c.args.locked.now.marks.rows.now w) c.in_err-before.field-0.0 (λ h. inl h) (c.in_err-before.ensures.large m seen found.0.is.few))
+
+pub returns-in_err-after-clause-large : goal.returns-in_err-after-clause-large
+returns-in_err-after-clause-large c = λ m w seen other. let q = c.args.locked.now.marks.rows.now in let copies = c.args.locks.now.copy.items in let body = c.in-Some.body in
+    let copy : (row_by (origin_of copies body) ≡ Some c.in-Some-row_among.copy) × (c.in-Some-row_among.copy < length q) = subst (λ o. IfSome o (λ k. (row_by (origin_of copies body) ≡ Some k) × (k < length q))) c.in-Some-row_among.is (subst (λ xs. IfSome c.row_among.result (λ k. (row_by (origin_of xs body) ≡ Some k) × (k < length q))) c.deref.ensures.value c.row_among.ensures.some) in
+    let q = err_from_is_err_and c.from_residual-in_err-after.result c.from_residual-in_err-after.ensures.1 in rw (q.1, q.2) (only_where (HasLarge c.args.locked.now.marks.rows.now w) (HasLarge c.args.old.now.marks.rows.now m ⊎ HasLarge c.args.locked.now.marks.rows.now w) c.in_err-after.field-0.0 (λ h. inr h) (c.in_err-after.ensures.large w other copy.1))
+
+pub returns-clause-large : goal.returns-clause-large
+returns-clause-large c = λ m w seen other. large_err c.lost_in_inlined.result (HasLarge c.args.old.now.marks.rows.now m) (HasLarge c.args.old.now.marks.rows.now m ⊎ HasLarge c.args.locked.now.marks.rows.now w) (λ h. inl h) (c.lost_in_inlined.ensures.large m seen)

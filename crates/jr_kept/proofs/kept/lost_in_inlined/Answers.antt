@@ -1,3 +1,4 @@
+use Rattle.std.proofs.lemmas.Result.{err_from_is_err_and}
 use Rattle.jr_flow_defs.specs.Edges.{body_flow}
 use Rattle.jr_flow.specs.Reached.{steps_of}
 use Rattle.jr_kept.specs.Gathered.{use_in}
@@ -31,3 +32,6 @@ returns-clause-only_uses c = λ m w before after few le keeps calm. let flows = 
     let uses = c.in_ok-put_lost_definitions.ensures.kept c.none-lost.ensures (uses_numbered flows f g before after (use_in c.none-handing.result) c.none-handing.ensures keeps.definitions) in
     c.first_of-2.ensures.some (c.in_ok-put_disturbing.ensures.kept (steps_within f old.body old.points.items (steps_of old) before) uses few
     (undisturbed_numbers p f old.body old.points.items (steps_of old) before local (throws_at_nodes p m old.body local le) calm))
+
+pub returns-in_err-put_delayed-clause-large : goal.returns-in_err-put_delayed-clause-large
+returns-in_err-put_delayed-clause-large c = λ m seen. let q = err_from_is_err_and c.from_residual-in_err-put_delayed.result c.from_residual-in_err-put_delayed.ensures.1 in rw (q.1, q.2) (c.in_err-put_delayed.ensures.large m seen)
