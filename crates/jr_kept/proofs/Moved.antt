@@ -73,6 +73,14 @@ notes_more p body bound origin first at old new row le is h notes = record {
       (λ now. record { copy = at; from = le; to = omega arith; noted = record { at = now.at; stands = sym is ∙ now.stands; noted = now.noted; place = now.place } }) (notes.out j s);
 }
 
+pub notes_end : (p : Rows) (body bound : ℕ) (origin : Origin) (first at stop : ℕ) (moved : Stamps) → (at ≤ first) ⊎ (at ≤ stop) → stop ≤ at → NotesTo p body bound origin first at moved → NotesTo p body bound origin first stop moved
+notes_end p body bound origin first at stop moved either past notes = record {
+  counted = notes.counted;
+  here = λ k n low high e such lt. notes.here k n low (omega (arith, high, past)) e such lt;
+  out = λ j s. let o = notes.out j s in let from = o.from in let to = o.to in
+      record { copy = o.copy; from = o.from; to = ⊎_elim (λ none. absurd (omega (arith, none, from, to))) (λ near. omega (arith, near, to)) either; noted = o.noted };
+}
+
 pub all_moved : (p q : Rows) (body method first stop last bound : ℕ) (origin : Origin) (moved : Stamps) → first ≡ method + 1 → stop ≡ end q method → last ≡ end p body → bound ≡ last - body
     → NotesTo p body bound origin first stop moved → AreMoved p q body method origin moved
 all_moved p q body method first stop last bound origin moved is_first is_stop is_last is_bound notes n m =

@@ -10,4 +10,4 @@ returns-clause-every c = let made = c.args.made.now in let from = c.args.from in
 
 pub returns-clause-only : goal.returns-clause-only
 returns-clause-only c = let made = c.args.made.now in let from = c.args.from in let to = c.in_ok-to.to in
-    used_only made _ from to (c.in_ok-put_step.ensures.steps ∙ ap (λ ss. ss ++ plain_step from to ∷ []) c.in_ok-to.ensures.steps) c.in_ok-to.ensures.number
+    used_only made c.put_step.new.made from to (c.in_ok-put_step.ensures.steps ∙ ap (λ ss. ss ++ plain_step from to ∷ []) c.in_ok-to.ensures.steps) c.in_ok-to.ensures.number
