@@ -1,9 +1,11 @@
 -- Edges from definitions to uses of two flows, where those by the numbers of their points are kept.
-use Rattle.std.proofs.Common.{◌≡◌, sym, ◌∙◌, ℕ, Option, Some, None}
+use Rattle.std.proofs.Common.{◌≡◌, refl, sym, ◌∙◌, ap, ℕ, Option, Some, None}
 use Rattle.std.proofs.lemmas.Option.{none-some}
+use Rattle.jr_flow_defs.specs.declared.point.Point.{Point}
+use Rattle.jr_flow_defs.specs.declared.point.PointKind.{PointKind}
 use Rattle.jr_flow_defs.specs.declared.point.PointKind.TheVariants as kind
 use Rattle.jr_flow_defs.specs.Paths.{Flow}
-use Rattle.jr_flow_defs.specs.Edges.{IsGraph, DefUse}
+use Rattle.jr_flow_defs.specs.Edges.{IsGraph, DefUse, own_number}
 use Rattle.jr_flow_defs.specs.Graphs.{ReachesByNumbers}
 use Rattle.jr_flow_defs.specs.Kept.{Arrives, CopyArrives, KeepsDefinitions, Never, NoHanding}
 use Rattle.jr_flow_defs.proofs.Reaching.{reaching_goes_by_numbers}
@@ -11,12 +13,19 @@ use Rattle.jr_flow.specs.Reached.{steps_of}
 use Rattle.jr_kept.specs.declared.flows.Flows.{Flows}
 use Rattle.jr_kept.specs.Named.{origin_in}
 use Rattle.jr_kept.specs.Gathered.{IsFound, IsOriginalOf}
-use Rattle.jr_kept.specs.Arrived.{KeepsUses}
+use Rattle.jr_kept.specs.Arrived.{old_use, use_from, KeepsUses}
+use Rattle.jr_kept.proofs.Comparing.{place_of}
+use Rattle.jr_kept.proofs.Uses.{old_use_out}
 
 -- what is found behind a definition that hands on is found
 further : (R : ℕ → ℕ → Type 0) (use_of : ℕ → Option ℕ) (used d k : ℕ) → IsFound R use_of used d → use_of d ≡ Some k → (e : ℕ) → IsFound R use_of k e → IsFound R use_of used e
 further R use_of used d k f u e (IsFound.first r) = IsFound.on f u r
 further R use_of used d k f u e (IsFound.on {d = b} {k = m} more v r) = IsFound.on (further R use_of used d k f u b more) v r
+
+-- a use that is a copy is one of a local
+local_used : (k : PointKind) (from : Option ℕ) (old : ℕ) → use_from k from ≡ Some old → (d : ℕ) × (k ≡ kind.Use d)
+local_used (kind.Use d) from old e = (d, refl)
+local_used _ from old e = absurd (none-some old e)
 
 module _ {A B : Type 0} (flows : Flows) (f : Flow A) (g : Flow B) (before : IsGraph f flows.before.now.body flows.before.now.points.items (steps_of flows.before.now)) (after : IsGraph g flows.after.now.body flows.after.now.points.items (steps_of flows.after.now)) where
   abbrev Reaches : ℕ → ℕ → Type 0
@@ -62,6 +71,18 @@ module _ {A B : Type 0} (flows : Flows) (f : Flow A) (g : Flow B) (before : IsGr
       );
     }
 
+    pub uses_handed : KeepsDefinitions f g IsHanding Hands origin → KeepsUses flows use_of
+    uses_handed h k x old at is n =
+        let local = local_used x.kind (origin x.row) old is in
+        let place = place_of g flows.after.now.body flows.after.now.points.items (steps_of flows.after.now) after k x at (ap own_number local.1) in
+        let both = h.same place.at local.0 n x.row old place.reached (place.stands ∙ ap (λ z. Some (record { row = x.row; kind = z })) local.1) (old_use_out origin x old is) in (
+          λ r. original_of n x.row (both.0 ((old_by n old).1 r)),
+          λ o. (old_by n old).0 (both.1 (copy_of n x.row o)),
+        )
+
   -- where nothing is handed on
   pub definitions_kept : (use_of : ℕ → Option ℕ) → ((d : ℕ) → use_of d ≡ None) → KeepsUses flows use_of → KeepsDefinitions f g Never NoHanding origin
   definitions_kept use_of none h = definitions_handed Never NoHanding use_of (λ d k. (λ u. absurd (none-some k (sym (none d) ∙ u)), λ h. absurd h)) (λ d. (λ e h. h, λ apart. none d)) h
+
+  pub uses_numbered : (use_of : ℕ → Option ℕ) → ((d : ℕ) → use_of d ≡ None) → KeepsDefinitions f g Never NoHanding origin → KeepsUses flows use_of
+  uses_numbered use_of none h = uses_handed Never NoHanding use_of (λ d k. (λ u. absurd (none-some k (sym (none d) ∙ u)), λ h. absurd h)) (λ d. (λ e h. h, λ apart. none d)) h

@@ -56,7 +56,7 @@ includes_push points more x s t e kept = record {
   steps_kept = kept;
 }
 
-seen_more : (steps more : List code_step.Step) (s : code_step.Step) → more ≡ steps ++ s ∷ [] → map step_seen more ≡ map step_seen steps ++ step_seen s ∷ []
+pub seen_more : (steps more : List code_step.Step) (s : code_step.Step) → more ≡ steps ++ s ∷ [] → map step_seen more ≡ map step_seen steps ++ step_seen s ∷ []
 seen_more steps more s e = ap (map step_seen) e ∙ map-append step_seen steps (s ∷ [])
 
 pub steps_still : (steps more : List code_step.Step) (s : code_step.Step) → more ≡ steps ++ s ∷ [] → (i j : ℕ) (t : Bool) → Contains (map step_seen steps) (i, j, t) → Contains (map step_seen more) (i, j, t)
@@ -66,7 +66,7 @@ pub step_now : (steps more : List code_step.Step) (s : code_step.Step) → more 
 step_now steps more s e = subst (λ xs. Contains xs (step_seen s)) (sym (seen_more steps more s e)) (Contains-push (map step_seen steps) (step_seen s))
 
 -- the point behind the others
-point_now : (points more : List Point) (x : Point) (n : ℕ) → more ≡ points ++ x ∷ [] → n ≡ length points → slice_get more n ≡ Some x
+pub point_now : (points more : List Point) (x : Point) (n : ℕ) → more ≡ points ++ x ∷ [] → n ≡ length points → slice_get more n ≡ Some x
 point_now points more x n e is = ap (λ xs. slice_get xs n) e ∙ ap (slice_get (points ++ x ∷ [])) is ∙ get_last points x
 
 pub used_after : (old new : code.Graph) (from to local : ℕ) → new.points.items ≡ old.points.items ++ record { row = 0; kind = kind.Use local } ∷ []
@@ -109,19 +109,19 @@ path_on : (steps : StepList) (S : ℕ → Type 0) (a b c : ℕ) → StepPath ste
 path_on steps S a b c first apart (StepPath.step t h) = StepPath.on t first apart h
 path_on steps S a b c first apart (StepPath.on {k = k} t path free h) = StepPath.on t (path_on steps S a b k first apart path) free h
 
-stops_never : (points : List Point) (k d : ℕ) (x : Point) → slice_get points k ≡ Some x → is_definition_of d x ≡ false → PassesAt points (is_definition_of d) k → ⊥
+pub stops_never : (points : List Point) (k d : ℕ) (x : Point) → slice_get points k ≡ Some x → is_definition_of d x ≡ false → PassesAt points (is_definition_of d) k → ⊥
 stops_never points k d x e out s = false≢true (sym out ∙ subst (λ z. is_definition_of d z ≡ true) (same_Some s.point x (sym s.stands ∙ e)) s.passes)
 
 and_first : (b c : Bool) → (b && c) ≡ true → b ≡ true
 and_first true c e = refl
 and_first false c e = absurd (false≢true e)
 
-and_last : (b c : Bool) → (b && c) ≡ true → c ≡ true
+pub and_last : (b c : Bool) → (b && c) ≡ true → c ≡ true
 and_last true c e = e
 and_last false c e = absurd (false≢true e)
 
 -- an exit is no definition
-exit_point : (method : ℕ) (t : Bool) (o : Option Point) → is_exit_at method t o ≡ true → (x : Point) × (o ≡ Some x) × ((d : ℕ) → is_definition_of d x ≡ false)
+pub exit_point : (method : ℕ) (t : Bool) (o : Option Point) → is_exit_at method t o ≡ true → (x : Point) × (o ≡ Some x) × ((d : ℕ) → is_definition_of d x ≡ false)
 exit_point method t None e = absurd (false≢true e)
 exit_point method t (Some x) e = (x, refl, by x.kind (and_last (nat_eq x.row method) _ e))
   where

@@ -1,19 +1,20 @@
 -- Changes of locals between that of a local and its uses, by the numbers of points and in a flow.
-use Rattle.std.proofs.Common.{◌≡◌, refl, sym, ◌∙◌, ap, subst, ℕ, Bool, true, List, Option, Some, None, slice_get}
+use Rattle.std.proofs.Common.{◌≡◌, refl, sym, ◌∙◌, ap, subst, ℕ, ◌<◌, Bool, true, List, Option, Some, None, slice_get}
 use Rattle.std.specs.List.{Contains}
 use Rattle.std.proofs.lemmas.Bool.{false≢true}
 use Rattle.std.proofs.lemmas.Option.{same_Some}
 use Rattle.jr_tree.specs.Rows.{Rows, end}
 use Rattle.jr_flow_defs.specs.declared.point.Point.{Point}
 use Rattle.jr_flow_defs.specs.declared.point.PointKind.TheVariants as kind
-use Rattle.jr_flow_defs.specs.Paths.{Flow, IsReached, Path, IsPoint}
+use Rattle.jr_flow_defs.specs.Paths.{Flow, IsReached, Path, IsPoint, Steps}
 use Rattle.jr_flow_defs.specs.Edges.{point, IsGraph, Defines}
 use Rattle.jr_flow_defs.specs.Graphs.{StepList, StepPath, StopsAt, PassesAt, is_definition_of}
 use Rattle.jr_flow_defs.specs.Computed.{is_definition, defined_at}
-use Rattle.jr_flow_defs.specs.Kept.{IsChangedBetween, IsDisturbed}
+use Rattle.jr_flow_defs.specs.Kept.{HasEventIn, IsChangedBetween, IsDisturbed}
 use Rattle.jr_flow_defs.proofs.Flowing.{definition_tells}
-use Rattle.jr_flow_defs.proofs.Numbered.{by_numbers, reached_along}
-use Rattle.jr_kept.specs.Disturbed.{IsBetween, IsHeld, IsUndisturbed}
+use Rattle.jr_flow_defs.proofs.Numbered.{by_numbers, by_places, reached_along}
+use Rattle.jr_kept.specs.Disturbed.{IsBetween, IsHeld, ThrowsInside, IsUndisturbed}
+use Rattle.jr_kept.proofs.Comparing.{place_at}
 use Rattle.jr_kept.proofs.Disturbing.{inside_tells}
 
 -- ---- paths that pass no other definition
@@ -51,6 +52,20 @@ module _ {A : Type 0} (p : Rows) (f : Flow A) (body : ℕ) (points : List Point)
   pub to_numbers : (a b : A) → IsReached f a → IsPoint f a → IsPoint f b → Path f (Defines f d) a b → StepPath steps Stops (g.number a) (g.number b)
   to_numbers a b r x y path = steps_under steps (StopsAt f g.number stops) Stops number_stops (g.number a) (g.number b)
       (by_numbers f body points steps g stops points_stop a b r x y (path_under f (Defines f d) (λ z. stops z ≡ true) defines a b path))
+
+  stops_number : (k j : ℕ) (t : Bool) → Contains steps (k, j, t) → StopsAt f g.number stops k → Stops k
+  stops_number k j t c s = record {
+    point = s.point.point;
+    stands = subst (λ m. slice_get points m ≡ Some s.point.point) s.numbered (g.numbering.stands s.at s.point.point s.reached s.point.stands);
+    passes = sym (ap (defined_at d) s.point.stands) ∙ s.stop;
+  }
+
+  stops_where : (a : A) → Defines f d a → stops a ≡ true
+  stops_where a h = ap (defined_at d) h.stands ∙ (definition_tells d (kind.Definition d)).1 refl
+
+  pub of_numbers : (a b : A) → IsReached f a → IsPoint f a → IsReached f b → IsPoint f b → StepPath steps Stops (g.number a) (g.number b) → Path f (Defines f d) a b
+  of_numbers a b r x s y path = path_under f (λ z. stops z ≡ true) (Defines f d) stops_where a b
+      (by_places f body points steps g stops points_stop a b r x s y (steps_under steps Stops (StopsAt f g.number stops) stops_number (g.number a) (g.number b) path))
 
   pub comes_to : (a b : A) → IsReached f a → Path f (Defines f d) a b → IsReached f b
   comes_to a b r path = reached_along f (λ z. stops z ≡ true) points_stop a b r (path_under f (Defines f d) (λ z. stops z ≡ true) defines a b path)
@@ -90,3 +105,58 @@ module _ {A : Type 0} (p : Rows) (f : Flow A) (body : ℕ) (points : List Point)
     stands = g.numbering.stands t.at (record { row = t.row; kind = kind.Node }) t.reached t.stands;
     inside = (inside_tells d (end p d) t.row).1 t.inside;
   }))
+
+  -- ---- and back
+
+  is_changed : (k row local : ℕ) → slice_get points k ≡ point row (kind.Definition local) → (local ≡ d → ⊥) → IsBetween points steps d k → IsChangedBetween f d local
+  is_changed k row local stands other b =
+      let first = place_at f body points steps g b.from (record { row = b.row; kind = kind.Definition d }) b.defines refl in
+      let mid = place_at f body points steps g k (record { row = row; kind = kind.Definition local }) stands refl in
+      let last = place_at f body points steps g b.to (record { row = b.used_at; kind = kind.Use d }) b.uses refl in
+      let first_point : IsPoint f first.at = record { point = record { row = b.row; kind = kind.Definition d }; stands = first.stands } in
+      let mid_point : IsPoint f mid.at = record { point = record { row = row; kind = kind.Definition local }; stands = mid.stands } in
+      let last_point : IsPoint f last.at = record { point = record { row = b.used_at; kind = kind.Use d }; stands = last.stands } in
+      record {
+        from = first.at;
+        between = mid.at;
+        to = last.at;
+        row = row;
+        used_at = b.used_at;
+        reached = first.reached;
+        declares = record { row = b.row; stands = first.stands };
+        changes = mid.stands;
+        other = other;
+        uses = last.stands;
+        before = of_numbers first.at mid.at first.reached first_point mid.reached mid_point (subst (λ n. StepPath steps Stops (g.number first.at) n) (sym mid.numbered) (subst (λ n. StepPath steps Stops n k) (sym first.numbered) b.before));
+        after = of_numbers mid.at last.at mid.reached mid_point last.reached last_point (subst (λ n. StepPath steps Stops (g.number mid.at) n) (sym last.numbered) (subst (λ n. StepPath steps Stops n b.to) (sym mid.numbered) b.after));
+      }
+
+  -- where throws leave nodes alone
+  module _ (nodes : (a b : A) (x : Point) → f.point a ≡ Some x → Steps f a b true → d < x.row → x.kind ≡ kind.Node) where
+    has_event : ThrowsInside points steps d (end p d) → HasEventIn p f d
+    has_event t =
+        let s = g.only t.from t.to true t.step in
+        let from = s.steps.from in
+        let same : from.point ≡ t.point = same_Some from.point t.point (sym (subst (λ n. slice_get points n ≡ Some from.point) s.numbers.0 (g.numbering.stands s.from from.point s.reached from.stands)) ∙ t.stands) in
+        let stands : f.point s.from ≡ Some t.point = from.stands ∙ ap Some same in
+        let inside = (inside_tells d (end p d) t.point.row).0 t.inside in record {
+          at = s.from;
+          next = s.to;
+          row = t.point.row;
+          reached = s.reached;
+          stands = stands ∙ ap (λ k. point t.point.row k) (nodes s.from s.to t.point stands s.steps inside.0);
+          throws = s.steps;
+          inside = inside;
+        }
+
+    pub undisturbed_numbers : (IsDisturbed p f d → ⊥) → IsUndisturbed p points steps d
+    undisturbed_numbers calm = record {
+      inside = λ k row local stands in_it. let place = place_at f body points steps g k (record { row = row; kind = kind.Definition local }) stands refl in
+          calm (IsDisturbed.inside {local = local} (record { at = place.at; row = row; reached = place.reached; defines = place.stands; inside = (inside_tells d (end p d) row).0 in_it }));
+      between = λ k row local stands other holds b. by local (is_changed k row local stands other b) holds;
+    }
+      where
+        by : (local : ℕ) → IsChangedBetween f d local → IsHeld p points steps d local → ⊥
+        by local changed (IsHeld.used j used_at stands in_it) = let place = place_at f body points steps g j (record { row = used_at; kind = kind.Use local }) stands refl in
+            calm (IsDisturbed.between {local = local} (record { at = place.at; row = used_at; reached = place.reached; uses = place.stands; inside = (inside_tells d (end p d) used_at).0 in_it }) changed)
+        by local changed (IsHeld.throwing t) = calm (IsDisturbed.throwing {local = local} (has_event t) changed)

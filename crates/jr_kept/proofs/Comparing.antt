@@ -249,8 +249,20 @@ pub record StandsAt {A : Type 0} (f : Flow A) (x : Point) : Type 0 where
   pub reached : IsReached f at
   pub stands : f.point at ≡ Some x
 
-pub place_of : {A : Type 0} (f : Flow A) (body : ℕ) (points : List Point) (steps : StepList) → IsGraph f body points steps → (k : ℕ) (x : Point) → slice_get points k ≡ Some x → own_number x.kind ≡ None → StandsAt f x
-place_of f body points steps g k x e none = by (cases_lt k 3)
+-- a place of the number, where control comes to
+pub record NumberedAt {A : Type 0} (f : Flow A) (number : A → ℕ) (x : Point) (k : ℕ) : Type 0 where
+  pub at : A
+  pub reached : IsReached f at
+  pub stands : f.point at ≡ Some x
+  pub numbered : number at ≡ k
+
+pub late_place : {A : Type 0} (f : Flow A) (body : ℕ) (points : List Point) (steps : StepList) (g : IsGraph f body points steps) (k : ℕ) (x : Point) → slice_get points k ≡ Some x → 3 ≤ k → NumberedAt f g.number x k
+late_place f body points steps g k x e le = let place = g.numbering.all k le (get_inside points k x e) in
+    let same = same_Some place.1 x (sym (subst (λ m. slice_get points m ≡ Some place.1) place.4 (g.numbering.stands place.0 place.1 place.2 place.3)) ∙ e) in
+    record { at = place.0; reached = place.2; stands = place.3 ∙ ap Some same; numbered = place.4 }
+
+pub place_at : {A : Type 0} (f : Flow A) (body : ℕ) (points : List Point) (steps : StepList) (g : IsGraph f body points steps) (k : ℕ) (x : Point) → slice_get points k ≡ Some x → own_number x.kind ≡ None → NumberedAt f g.number x k
+place_at f body points steps g k x e none = by (cases_lt k 3)
   where
     not_own : (y : Point) (m : ℕ) → slice_get points k ≡ Some y → own_number y.kind ≡ Some m → ⊥
     not_own y m there is = none-some m (sym none ∙ ap (λ z. own_number z.kind) (same_Some x y (sym e ∙ there)) ∙ is)
@@ -261,11 +273,12 @@ place_of f body points steps g k x e none = by (cases_lt k 3)
     own (suc (suc zero)) same lt = not_own (record { row = body; kind = kind.Thrown }) 2 (ap (slice_get points) same ∙ g.numbering.thrown) refl
     own (suc (suc (suc m))) same lt = absurd (omega (arith, lt))
 
-    by : (k < 3) ⊎ (3 ≤ k) → StandsAt f x
+    by : (k < 3) ⊎ (3 ≤ k) → NumberedAt f g.number x k
     by (inl lt) = absurd (own k refl lt)
-    by (inr le) = let place = g.numbering.all k le (get_inside points k x e) in
-        let same = same_Some place.1 x (sym (subst (λ m. slice_get points m ≡ Some place.1) place.4 (g.numbering.stands place.0 place.1 place.2 place.3)) ∙ e) in
-        record { at = place.0; reached = place.2; stands = place.3 ∙ ap Some same }
+    by (inr le) = late_place f body points steps g k x e le
+
+pub place_of : {A : Type 0} (f : Flow A) (body : ℕ) (points : List Point) (steps : StepList) → IsGraph f body points steps → (k : ℕ) (x : Point) → slice_get points k ≡ Some x → own_number x.kind ≡ None → StandsAt f x
+place_of f body points steps g k x e none = let place = place_at f body points steps g k x e none in record { at = place.at; reached = place.reached; stands = place.stands }
 
 module _ {A B : Type 0} (p q : Rows) (f : Flow A) (g : Flow B) (old new : ℕ) (dropped : Option ℕ) (origin : Origin) (points more : List Point) (s t : StepList) (before : IsGraph f old points s) (after : IsGraph g new more t) where
   abbrev SameNumbers : Type 0

@@ -1,6 +1,7 @@
 -- What is handed on between a body and a method that it calls, by points and in a flow.
-use Rattle.std.proofs.Common.{◌≡◌, ◌⊎◌, inl, inr, ⊎_elim, refl, sym, ◌∙◌, ap, subst, arith, ℕ, zero, suc, ◌+◌, ◌-◌, ◌<◌, ◌≤◌, Bool, true, false, not, ◌&&◌, if◌then◌else◌, List, [], ◌∷◌, ◌++◌, Option, Some, None, IfSome, is_some, nat_eq, nat_lt, slice_get, slice_set, slice_index_or}
+use Rattle.std.proofs.Common.{◌≡◌, ◌⊎◌, inl, inr, ⊎_elim, refl, sym, ◌∙◌, ap, subst, arith, ℕ, zero, suc, ◌+◌, ◌-◌, ◌<◌, ◌≤◌, Bool, true, false, not, ◌&&◌, if◌then◌else◌, List, [], ◌∷◌, ◌++◌, length, Option, Some, None, IfSome, IfNone, is_some, nat_eq, nat_lt, slice_get, slice_set, slice_index_or, Decides}
 use Rattle.std.proofs.lemmas.Bool.{false≢true, cases_lt, ltb-false}
+use Rattle.std.proofs.lemmas.Bool.Decides.{Decides-eqb}
 use Rattle.std.proofs.lemmas.Option.{none-some, same_Some}
 use Rattle.jr_tree.specs.Rows.{Rows, label, parent, end}
 use Rattle.jr_locks.specs.Origins.{no_row, origin_of, row_by}
@@ -17,8 +18,9 @@ use Rattle.jr_kept.specs.declared.handing.Crossing.{Crossing}
 use Rattle.jr_kept.specs.declared.handing.Handing.{Handing}
 use Rattle.jr_kept.specs.Disturbed.{is_inside, some_if}
 use Rattle.jr_kept.specs.Gathered.{use_in}
-use Rattle.jr_kept.specs.Handed.{defined_by, defined_in, used_by, added_in, IsDefinedAt, IsAddedAt, AddsOne, AddsPairs, AddsAssigned, IsFrom, HasPairs, HasAssigned, IsOnly, IsAssignedIn, OnlyCrosses, IsHandingOf}
+use Rattle.jr_kept.specs.Handed.{defined_by, defined_in, used_by, added_in, IsDefinedAt, IsAddedAt, AddsOne, AddsPairs, AddsAssigned, IsPaired, AreOne, IsFrom, are_one, is_none_or, is_from, has_pair, HasPairs, HasAssigned, IsOnly, IsCrossing, IsAssignedIn, OnlyCrosses, HasCrossing, IsHandingOf}
 use Rattle.jr_kept.proofs.Comparing.{place_of}
+use Rattle.jr_kept.proofs.Naming.{get_inside}
 use Rattle.jr_kept.proofs.Disturbing.{and_true, and_out, inside_tells}
 
 -- ---- rows
@@ -93,6 +95,32 @@ crosses empty mid last crossing points none pairs assigned d k e = ⊎_elim (λ 
 
 -- ---- tests of a table
 
+pub one_tells : (a b : Option ℕ) → Decides (are_one a b) (AreOne a b)
+one_tells None b = (λ e. absurd (false≢true e), λ o. absurd (none-some o.row o.first))
+one_tells (Some row) None = (λ e. absurd (false≢true e), λ o. absurd (none-some o.row o.second))
+one_tells (Some row) (Some same) = (
+  λ e. record { row = row; first = refl; second = ap Some (sym ((Decides-eqb row same).0 e)) },
+  λ o. (Decides-eqb row same).1 (same_Some row o.row o.first ∙ sym (same_Some same o.row o.second)),
+)
+
+pub none_or_tells : (found row : Option ℕ) → Decides (is_none_or found row) ((k : ℕ) → found ≡ Some k → row ≡ Some k)
+none_or_tells None row = (λ e k is. absurd (none-some k is), λ h. refl)
+none_or_tells (Some n) row = (
+  λ e k is. let one = (one_tells (Some n) row).0 e in one.second ∙ sym one.first ∙ is,
+  λ h. (one_tells (Some n) row).1 (record { row = n; first = refl; second = h n refl }),
+)
+
+pub from_tells : (handing : Handing) (definition from : Option ℕ) → Decides (is_from handing definition from) ((d : ℕ) → definition ≡ Some d → IsFrom handing from d)
+from_tells handing None from = (λ e d is. absurd (none-some d is), λ h. refl)
+from_tells handing (Some n) from = (λ e d is. subst (IsFrom handing from) (same_Some n d is) ((one_tells from (use_in handing n)).0 e), λ h. (one_tells from (use_in handing n)).1 (h n refl))
+
+pub pair_tells : (handing : Handing) (definition from : Option ℕ) → Decides (has_pair handing definition from) ((d k : ℕ) → definition ≡ Some d → from ≡ Some k → use_in handing d ≡ Some k)
+pair_tells handing definition None = (λ e d k is from. absurd (none-some k from), λ h. refl)
+pair_tells handing definition (Some n) = (
+  λ e d k is from. let one = (from_tells handing definition (Some n)).0 e d is in one.second ∙ sym one.first ∙ from,
+  λ h. (from_tells handing definition (Some n)).1 (λ d is. record { row = n; first = refl; second = h d n is refl }),
+)
+
 pub has_pairs_more : (handing : Handing) (definitions uses : List ℕ) (n : ℕ) (one other : Option ℕ) → one ≡ slice_get definitions n → other ≡ slice_get uses n
     → ((d k : ℕ) → one ≡ Some d → other ≡ Some k → use_in handing d ≡ Some k) → HasPairs handing definitions uses n → HasPairs handing definitions uses (n + 1)
 has_pairs_more handing definitions uses n one other is other_is now h i d k lt e f = ⊎_elim (λ early. h i d k early e f)
@@ -107,6 +135,73 @@ pub only_more : (points : List Point) (first last : ℕ) (origin : Origin) (from
     → ((k : ℕ) → one ≡ Some k → from ≡ Some k) → IsOnly points first last origin from n → IsOnly points first last origin from (n + 1)
 only_more points first last origin from n one is now h i k lt e = ⊎_elim (λ early. h i k early e)
     (λ past. let same : n ≡ i = omega (arith, lt, past) in now k (is ∙ ap (λ m. added_in first last origin (slice_get points m)) same ∙ e)) (cases_lt i n)
+
+-- the tests tell all
+pub crossing_tells : (handing : Handing) (crossing : Crossing) (points : List Point) (origin : Origin) → HasPairs handing crossing.parameters.items crossing.arguments.items (length crossing.parameters.items)
+    → HasAssigned handing points crossing.statement.first crossing.statement.end crossing.returned (length points) → IsOnly points crossing.method.first crossing.method.end origin crossing.returned (length points) → HasCrossing handing crossing points origin
+crossing_tells handing crossing points origin pairs assigned only = record {
+  pairs = λ d k p. pairs p.place d k (get_inside crossing.parameters.items p.place d p.definition) p.definition p.used;
+  assigned = λ d a. assigned a.number d (point_at_number crossing.statement.first crossing.statement.end d a.number a.defines) a.defines;
+  one = λ k a. only a.number k (added_at_number crossing.method.first crossing.method.end k a.number a.uses) a.uses;
+}
+  where
+    inside : (number : ℕ) (o : Option Point) → slice_get points number ≡ o → (o ≡ None → ⊥) → number < length points
+    inside number None e some = absurd (some refl)
+    inside number (Some x) e some = get_inside points number x e
+
+    point_at_number : (first last d number : ℕ) → defined_in first last (slice_get points number) ≡ Some d → number < length points
+    point_at_number first last d number e = inside number (slice_get points number) refl (λ none. none-some d (ap (defined_in first last) (sym none) ∙ e))
+
+    added_at_number : (first last k number : ℕ) → added_in first last origin (slice_get points number) ≡ Some k → number < length points
+    added_at_number first last k number e = inside number (slice_get points number) refl (λ none. none-some k (ap (added_in first last origin) (sym none) ∙ e))
+
+pub crossing_pairs : (handing : Handing) (crossing : Crossing) (points : List Point) (origin : Origin) → HasCrossing handing crossing points origin → HasPairs handing crossing.parameters.items crossing.arguments.items (length crossing.parameters.items)
+crossing_pairs handing crossing points origin h i d k lt e f = h.pairs d k (record { place = i; definition = e; used = f })
+
+pub crossing_assigned : (handing : Handing) (crossing : Crossing) (points : List Point) (origin : Origin) → HasCrossing handing crossing points origin
+    → HasAssigned handing points crossing.statement.first crossing.statement.end crossing.returned (length points)
+crossing_assigned handing crossing points origin h i d lt e = h.assigned d (record { number = i; defines = e })
+
+pub crossing_only : (handing : Handing) (crossing : Crossing) (points : List Point) (origin : Origin) → HasCrossing handing crossing points origin → IsOnly points crossing.method.first crossing.method.end origin crossing.returned (length points)
+crossing_only handing crossing points origin h i k lt e = h.one k (record { number = i; uses = e })
+
+pub none_added_more : (points : List Point) (first last : ℕ) (origin : Origin) (n : ℕ) (one : Option ℕ) → one ≡ added_in first last origin (slice_get points n) → one ≡ None → ((i k : ℕ) → i < n → added_in first last origin (slice_get points i) ≡ Some k → ⊥)
+    → (i k : ℕ) → i < n + 1 → added_in first last origin (slice_get points i) ≡ Some k → ⊥
+none_added_more points first last origin n one is none h i k lt e = ⊎_elim (λ early. h i k early e)
+    (λ past. let same : n ≡ i = omega (arith, lt, past) in none-some k (sym none ∙ is ∙ ap (λ m. added_in first last origin (slice_get points m)) same ∙ e)) (cases_lt i n)
+
+pub none_added : (points : List Point) (first last : ℕ) (origin : Origin) (n : ℕ) → length points ≤ n → ((i k : ℕ) → i < n → added_in first last origin (slice_get points i) ≡ Some k → ⊥) → (k : ℕ) → IsAddedAt points first last origin k → ⊥
+none_added points first last origin n all h k a = by (slice_get points a.number) refl
+  where
+    by : (o : Option Point) → slice_get points a.number ≡ o → ⊥
+    by None e = none-some k (ap (added_in first last origin) (sym e) ∙ a.uses)
+    by (Some x) e = let lt = get_inside points a.number x e in h a.number k (omega (arith, lt, all)) a.uses
+
+-- a crossing that was found is the one of a table that has what crosses
+pub crossing_stands : (handing : Handing) (crossing : Crossing) (q : Rows) (points : List Point) (call method : ℕ) (origin : Origin) → IsCrossing crossing q points call method origin
+    → IfNone crossing.returned ((k : ℕ) → IsAddedAt points method (end q method) origin k → ⊥) → IsHandingOf handing q points call method origin → HasCrossing handing crossing points origin
+crossing_stands handing crossing q points call method origin is none h = record {
+  pairs = λ d k p. h.all.pairs d k (record {
+    place = p.place;
+    definition = ap (λ xs. slice_get xs p.place) (h.is.parameters ∙ sym is.parameters) ∙ p.definition;
+    used = ap (λ xs. slice_get xs p.place) (h.is.arguments ∙ sym is.arguments) ∙ p.used;
+  });
+  assigned = λ d a. subst (λ o. IsFrom handing o d) same (h.all.assigned d
+      (subst (λ n. IsDefinedAt points n h.crossing.statement.end d) (is.statement.0 ∙ sym h.is.statement.0) (subst (λ n. IsDefinedAt points crossing.statement.first n d) (is.statement.1 ∙ sym h.is.statement.1) a)));
+  one = λ k a. sym same ∙ others k (subst (λ n. IsAddedAt points n (end q method) origin k) is.inside.0 (subst (λ n. IsAddedAt points crossing.method.first n origin k) is.inside.1 a));
+}
+  where
+    others : (k : ℕ) → IsAddedAt points method (end q method) origin k → h.crossing.returned ≡ Some k
+    others k a = h.all.one k (subst (λ n. IsAddedAt points n h.crossing.method.end origin k) (sym h.is.inside.0) (subst (λ n. IsAddedAt points method n origin k) (sym h.is.inside.1) a))
+
+    by : (o r : Option ℕ) → h.crossing.returned ≡ r → IfSome o (λ k. IsAddedAt points method (end q method) origin k) → IfNone o ((k : ℕ) → IsAddedAt points method (end q method) origin k → ⊥)
+        → IfSome r (λ k. IsAddedAt points method (end q method) origin k) → h.crossing.returned ≡ o
+    by (Some k) r e added free other = others k added
+    by None None e added free other = e
+    by None (Some k) e added free other = absurd (free k other)
+
+    same : h.crossing.returned ≡ crossing.returned
+    same = by crossing.returned h.crossing.returned refl is.returned none h.is.returned
 
 -- ---- points
 
@@ -167,11 +262,11 @@ taken first last origin k local o e inside added = ap (added_in first last origi
 
 -- ---- in a flow
 
-module _ {B : Type 0} (q : Rows) (g : Flow B) (body : ℕ) (points : List Point) (steps : StepList) (graph : IsGraph g body points steps) (handing : Handing) (call method : ℕ) (origin : Origin) (h : IsHandingOf handing q points call method origin) where
+module _ {B : Type 0} (q : Rows) (g : Flow B) (body : ℕ) (points : List Point) (steps : StepList) (graph : IsGraph g body points steps) (call method : ℕ) (origin : Origin) where
   abbrev statement : ℕ
   statement = statement_round q call call
 
-  assigned_out : (d : ℕ) → IsDefinedAt points statement (end q statement) d → IsAssigned q g call d
+  pub assigned_out : (d : ℕ) → IsDefinedAt points statement (end q statement) d → IsAssigned q g call d
   assigned_out d a = let o = gives statement (end q statement) d (slice_get points a.number) a.defines in
       let place = place_of g body points steps graph a.number (record { row = d; kind = kind.Definition o.local }) o.stands refl in
       record { at = place.at; local = o.local; reached = place.reached; defines = place.stands; inside = o.inside }
@@ -182,31 +277,32 @@ module _ {B : Type 0} (q : Rows) (g : Flow B) (body : ℕ) (points : List Point)
     defines = given statement (end q statement) d a.local (slice_get points (graph.number a.at)) (graph.numbering.stands a.at (record { row = d; kind = kind.Definition a.local }) a.reached a.defines) a.inside;
   }
 
-  returned_out : (k : ℕ) → IsAddedAt points method (end q method) origin k → IsReturned q g method origin k
+  pub returned_out : (k : ℕ) → IsAddedAt points method (end q method) origin k → IsReturned q g method origin k
   returned_out k a = let o = takes method (end q method) origin k (slice_get points a.number) a.uses in
       let place = place_of g body points steps graph a.number (record { row = k; kind = kind.Use o.local }) o.stands refl in
       record { at = place.at; local = o.local; reached = place.reached; uses = place.stands; inside = o.inside; added = o.added }
 
-  returned_into : (k : ℕ) → IsReturned q g method origin k → IsAddedAt points method (end q method) origin k
+  pub returned_into : (k : ℕ) → IsReturned q g method origin k → IsAddedAt points method (end q method) origin k
   returned_into k a = record {
     number = graph.number a.at;
     uses = taken method (end q method) origin k a.local (slice_get points (graph.number a.at)) (graph.numbering.stands a.at (record { row = k; kind = kind.Use a.local }) a.reached a.uses) a.inside a.added;
   }
 
+module _ {B : Type 0} (q : Rows) (g : Flow B) (body : ℕ) (points : List Point) (steps : StepList) (graph : IsGraph g body points steps) (handing : Handing) (call method : ℕ) (origin : Origin) (h : IsHandingOf handing q points call method origin) where
   -- by the rows of the crossing
   assigned_here : (d : ℕ) → IsAssignedIn h.crossing points d → IsAssigned q g call d
-  assigned_here d a = assigned_out d (subst (λ n. IsDefinedAt points statement n d) h.is.statement.1 (subst (λ n. IsDefinedAt points n h.crossing.statement.end d) h.is.statement.0 a))
+  assigned_here d a = assigned_out q g body points steps graph call method origin d (subst (λ n. IsDefinedAt points (statement_round q call call) n d) h.is.statement.1 (subst (λ n. IsDefinedAt points n h.crossing.statement.end d) h.is.statement.0 a))
 
   assigned_there : (d : ℕ) → IsAssigned q g call d → IsAssignedIn h.crossing points d
-  assigned_there d a = subst (λ n. IsDefinedAt points n h.crossing.statement.end d) (sym h.is.statement.0) (subst (λ n. IsDefinedAt points statement n d) (sym h.is.statement.1) (assigned_into d a))
+  assigned_there d a = subst (λ n. IsDefinedAt points n h.crossing.statement.end d) (sym h.is.statement.0) (subst (λ n. IsDefinedAt points (statement_round q call call) n d) (sym h.is.statement.1) (assigned_into q g body points steps graph call method origin d a))
 
   returned_there : (k : ℕ) → IsReturned q g method origin k → h.crossing.returned ≡ Some k
-  returned_there k a = h.all.one k (subst (λ n. IsAddedAt points n h.crossing.method.end origin k) (sym h.is.inside.0) (subst (λ n. IsAddedAt points method n origin k) (sym h.is.inside.1) (returned_into k a)))
+  returned_there k a = h.all.one k (subst (λ n. IsAddedAt points n h.crossing.method.end origin k) (sym h.is.inside.0) (subst (λ n. IsAddedAt points method n origin k) (sym h.is.inside.1) (returned_into q g body points steps graph call method origin k a)))
 
   hands_out : (d k : ℕ) → use_in handing d ≡ Some k → Hands q g call method origin d k
   hands_out d k e = ⊎_elim
       (λ p. Hands.argument p.place (ap (λ xs. slice_get xs p.place) (sym h.is.parameters) ∙ p.definition) (ap (λ xs. slice_get xs p.place) (sym h.is.arguments) ∙ p.used))
-      (λ a. Hands.result (assigned_here d a.0) (returned_out k (subst (λ o. IfSome o (λ n. IsAddedAt points method (end q method) origin n)) a.1 h.is.returned)))
+      (λ a. Hands.result (assigned_here d a.0) (returned_out q g body points steps graph call method origin k (subst (λ o. IfSome o (λ n. IsAddedAt points method (end q method) origin n)) a.1 h.is.returned)))
       (h.only d k e)
 
   hands_into : (d k : ℕ) → Hands q g call method origin d k → use_in handing d ≡ Some k

@@ -116,7 +116,7 @@ one_exit false true e = absurd (omega (arith, e))
 
 module _ (p : Rows) (m : Meaning) (body : ℕ) where
   -- the entry and the exits stand at the row of the body
-  own_row : (mo : Moment) (n row : ℕ) (k : PointKind) (number : ℕ) → own_number k ≡ Some number → point_by mo p m body n ≡ point row k → row ≡ body
+  pub own_row : (mo : Moment) (n row : ℕ) (k : PointKind) (number : ℕ) → own_number k ≡ Some number → point_by mo p m body n ≡ point row k → row ≡ body
   own_row (before zero) n row k number own e = by (nat_eq n body) (Decides-eqb n body).0 e
     where
       by : (b : Bool) → (b ≡ true → n ≡ body) → (if b then point n kind.Entry else act_point n (slice_get (acts p m n) 0)) ≡ point row k → row ≡ body
@@ -133,7 +133,7 @@ module _ (p : Rows) (m : Meaning) (body : ℕ) where
   pub record IsLeft (mo : Moment) (n : ℕ) (t : Bool) : Type 0 where
     how : Completion
     left : mo ≡ completed how
-    leaves : is_exit mo body n ≡ true
+    pub leaves : is_exit mo body n ≡ true
     thrown : is_throw how ≡ t
 
   pub exit_tells : (mo : Moment) (n : ℕ) → is_exit mo body n ≡ true → (t : Bool) × IsLeft mo n t
@@ -150,7 +150,7 @@ module _ (p : Rows) (m : Meaning) (body : ℕ) where
   )
 
   -- where the point of an exit stands the body is left
-  exit_at : (mo : Moment) (n row : ℕ) (k : PointKind) (t : Bool) → own_number k ≡ Some (exit_number t) → point_by mo p m body n ≡ point row k → IsLeft mo n t
+  pub exit_at : (mo : Moment) (n row : ℕ) (k : PointKind) (t : Bool) → own_number k ≡ Some (exit_number t) → point_by mo p m body n ≡ point row k → IsLeft mo n t
   exit_at (before zero) n row k t own e = by (nat_eq n body) e
     where
       not_entry : (u : Bool) → own_number kind.Entry ≡ Some (exit_number u) → ⊥
@@ -278,6 +278,29 @@ module _ (p : Rows) (m : Meaning) (body call method : ℕ) where
   pub stands : (x : Within) → IsReached J x → Stands x
   stands x IsReached.start = IsReached.start
   stands y (IsReached.on {a = x} r g) = next_stands x y g (stands x r)
+
+  -- control comes into the method by its entry
+  abbrev pub Entered : Within → Type 0
+  Entered (outside a) = Unit {0}
+  Entered (inside b a) = IsReached J (inside G.start a)
+
+  outer_entered : (a : State) (y : Within) (t : Bool) (b : Bool) → is_called a ≡ b → IsReached J (outside a) → Contains (J.hops (outside a)) (record { to = y; is_throw = t }) → Entered y
+  outer_entered a y t true e r c = ⊎_elim (λ same. subst Entered (ap (λ z. z.to) same) (subst (λ z. IsReached J z) (sym (ap (λ z. z.to) same)) (IsReached.on r (record { is_throw = t; hop = c })))) (λ more. absurd (none_in _ more))
+      (contains_out (record { to = inside G.start a; is_throw = false }) [] (record { to = y; is_throw = t }) (subst (λ xs. Contains xs (record { to = y; is_throw = t })) (call_hops a e) c))
+  outer_entered a y t false e r c = let o = each_out outside (F.hops a) y t (subst (λ xs. Contains xs (record { to = y; is_throw = t })) (outer_hops a e) c) in subst Entered (sym o.same) tt
+
+  inner_entered : (b a : State) (y : Within) (t : Bool) (z : Bool) → is_left b ≡ z → IsReached J (inside G.start a) → Contains (J.hops (inside b a)) (record { to = y; is_throw = t }) → Entered y
+  inner_entered b a y t false e s c = let o = each_out (λ x. inside x a) (G.hops b) y t (subst (λ xs. Contains xs (record { to = y; is_throw = t })) (inner_hops b a e) c) in subst Entered (sym o.same) s
+  inner_entered b a y t true e s c = let l = exit_tells p m method b.moment b.row e in
+      let o = each_out outside (filter (λ h. same_way l.0 h) (F.hops a)) y t (subst (λ xs. Contains xs (record { to = y; is_throw = t })) (exit_hops b a l.0 l.1) c) in subst Entered (sym o.same) tt
+
+  next_entered : (x y : Within) → IsReached J x → Goes J x y → Entered x → Entered y
+  next_entered (outside a) y r g e = outer_entered a y g.is_throw (is_called a) refl r g.hop
+  next_entered (inside b a) y r g e = inner_entered b a y g.is_throw (is_left b) refl e g.hop
+
+  pub entered : (x : Within) → IsReached J x → Entered x
+  entered x IsReached.start = tt
+  entered y (IsReached.on {a = x} r g) = next_entered x y r g (entered x r)
 
   -- ---- on to the next point
 

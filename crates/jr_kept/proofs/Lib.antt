@@ -18,9 +18,15 @@ pub mod Arrivals
 pub mod Crossing
 pub mod Each
 pub mod Carrying
+pub mod Leaving
 pub mod Losing
 pub mod Below
 pub mod Going
 pub mod Waited
 pub mod AtOnce
+pub mod Upward
 pub mod Moved
+pub mod Begun
+pub mod Throwing
+pub mod Handover
+pub mod Large

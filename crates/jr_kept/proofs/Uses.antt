@@ -14,28 +14,54 @@ use Rattle.jr_flow.specs.Reached.{steps_of}
 use Rattle.jr_kept.specs.declared.edges.Firsts.{Firsts}
 use Rattle.jr_kept.specs.declared.flows.Flows.{Flows}
 use Rattle.jr_kept.specs.declared.arriving.Uses.{Uses}
+use Rattle.jr_kept.specs.declared.gathering.Originals.{Originals}
 use Rattle.jr_kept.specs.declared.lists.Lists.{Lists}
 use Rattle.jr_kept.specs.declared.handing.Handing.{Handing}
 use Rattle.jr_kept.specs.Listed.{under_in}
 use Rattle.jr_kept.specs.Named.{origin_in}
 use Rattle.jr_kept.specs.Ordered.{AreNone, Checks}
-use Rattle.jr_kept.specs.Gathered.{use_in, AreReached, IsFound, IsOriginalOf, Listed}
+use Rattle.jr_kept.specs.Gathered.{use_in, AddsRow, AreOriginals, AreReached, IsFound, IsOriginalOf, Listed}
 use Rattle.jr_kept.specs.Arrived.{old_use, use_from, IsSame, AllSame, Compares, IsDone, AreDone, AreSame, KeepsUses}
 use Rattle.jr_kept.proofs.Naming.{get_inside}
 use Rattle.jr_kept.proofs.Searching.{none_in}
-
--- ---- what is checked item by item
-
-pub checks_none : (a : Firsts) (P : ℕ → Type 0) → Checks a a ((n : ℕ) → Contains [] n → P n)
-checks_none a P h = (h, λ n c. absurd (none_in n c))
-
-pub checks_more : (a b c : Firsts) (P : ℕ → Type 0) (all : List ℕ) (x : ℕ) → Checks a b ((n : ℕ) → Contains all n → P n) → Checks b c (P x) → Checks a c ((n : ℕ) → Contains (all ++ x ∷ []) n → P n)
-checks_more a b c P all x first one h = let later = one h in let early = first later.0 in (early.0, λ n m. ⊎_elim (λ e. early.1 n e) (λ same. subst P same later.1) (Contains-push_cases all x n m))
 
 -- ---- a set that is filled
 
 pub filled_more : (set added : Stamps) (bound : ℕ) (all : List ℕ) (x : ℕ) (is_new : Bool) → AddsStamp set added bound x is_new → ((n : ℕ) → is_stamped set n ≡ true → Contains all n) → (n : ℕ) → is_stamped added n ≡ true → Contains (all ++ x ∷ []) n
 filled_more set added bound all x is_new adds h n s = ⊎_elim (λ early. Contains-append_left all (x ∷ []) n (h n early)) (λ same. subst (Contains (all ++ x ∷ [])) same (Contains-push all x)) (adds.out n s)
+
+stamped_now : (set added : Stamps) (bound x : ℕ) (is_new : Bool) → AddsStamp set added bound x is_new → x < bound → is_stamped added x ≡ true
+stamped_now set added bound x true adds lt = (adds.new_one refl).1
+stamped_now set added bound x false adds lt = adds.kept x (adds.was lt refl)
+
+pub filled_all : (set added : Stamps) (bound : ℕ) (all : List ℕ) (x : ℕ) (is_new : Bool) → AddsStamp set added bound x is_new → ((n : ℕ) → Contains all n → n < bound → is_stamped set n ≡ true)
+    → (n : ℕ) → Contains (all ++ x ∷ []) n → n < bound → is_stamped added n ≡ true
+filled_all set added bound all x is_new adds h n m lt = ⊎_elim (λ early. adds.kept n (h n early lt))
+    (λ same. subst (λ k. is_stamped added k ≡ true) same (stamped_now set added bound x is_new adds (subst (λ k. k < bound) (sym same) lt))) (Contains-push_cases all x n m)
+
+-- ---- old rows
+
+pub no_originals : (originals : Originals) (bound : ℕ) → IsEmptied originals.met bound → originals.all.items ≡ [] → AreOriginals originals bound
+no_originals originals bound empty none = record {
+  counted = empty.counted;
+  listed = λ n s. absurd (false≢true (sym (empty.none n) ∙ s));
+  stamped = λ n m lt. absurd (none_in n (subst (λ xs. Contains xs n) none m));
+}
+
+pub original_added : (old new : Originals) (bound row : ℕ) (is_new : Bool) → AreOriginals old bound → AddsStamp old.met new.met bound row is_new → new.all.items ≡ old.all.items ++ row ∷ []
+    → AreOriginals new bound × AddsRow old.all.items new.all.items (Some row)
+original_added old new bound row is_new h adds is = (
+  record {
+    counted = adds.counted;
+    listed = λ n s. subst (λ xs. Contains xs n) (sym is) (filled_more old.met new.met bound old.all.items row is_new adds h.listed n s);
+    stamped = λ n m lt. filled_all old.met new.met bound old.all.items row is_new adds h.stamped n (subst (λ xs. Contains xs n) is m) lt;
+  },
+  record {
+    out = λ n m. ⊎_elim (λ early. inl early) (λ same. inr (ap Some same)) (Contains-push_cases old.all.items row n (subst (λ xs. Contains xs n) is m));
+    kept = λ n m. subst (λ xs. Contains xs n) (sym is) (Contains-append_left old.all.items (row ∷ []) n m);
+    here = λ n e. subst (λ xs. Contains xs n) (sym is) (subst (Contains (old.all.items ++ row ∷ [])) (same_Some row n e) (Contains-push old.all.items row));
+  },
+)
 
 -- ---- one use after the other
 
@@ -113,4 +139,12 @@ module _ (flows : Flows) (before after : Lists) (handing : Handing) where
   uses_kept old_are new_are h k x old e is n = let both = h k x old e is n in (
     λ r. original_like (Listed (under_in after)) New (use_in handing) (origin_in flows.origin.now) x.row n (λ d u c. (new_are d u).0 c) (both.0 ((old_are n old).1 r)),
     λ o. (old_are n old).0 (both.1 (original_like New (Listed (under_in after)) (use_in handing) (origin_in flows.origin.now) x.row n (λ d u r. (new_are d u).1 r) o)),
+  )
+
+  pub uses_listed : AreReached (under_in before) Old → AreReached (under_in after) New → KeepsUses flows (use_in handing)
+      → (k : ℕ) (x : Point) (old : ℕ) → slice_get flows.after.now.points.items k ≡ Some x → old_use (origin_in flows.origin.now) x ≡ Some old
+      → (n : ℕ) → (Contains (under_in before old) n → OriginalOf (Listed (under_in after)) x.row n) × (OriginalOf (Listed (under_in after)) x.row n → Contains (under_in before old) n)
+  uses_listed old_are new_are h k x old e is n = let both = h k x old e is n in (
+    λ m. original_like New (Listed (under_in after)) (use_in handing) (origin_in flows.origin.now) x.row n (λ d u r. (new_are d u).1 r) (both.0 ((old_are n old).0 m)),
+    λ o. (old_are n old).1 (both.1 (original_like (Listed (under_in after)) New (use_in handing) (origin_in flows.origin.now) x.row n (λ d u c. (new_are d u).0 c) o)),
   )

@@ -1,5 +1,5 @@
 -- Values that locals of a method have where it is left, and uses of other copies of these locals behind the call, by the numbers of points.
-use Rattle.std.specs.Prelude.{◌≡◌, ℕ, ◌+◌, ◌<◌, ◌≤◌, Bool, true, false, not, ◌&&◌, if◌then◌else◌, List, [], ◌∷◌, ◌++◌, length, Option, Some, None, is_some, nat_eq, nat_lt, slice_get}
+use Rattle.std.specs.Prelude.{◌≡◌, ◌⊎◌, ℕ, ◌+◌, ◌<◌, ◌≤◌, Bool, true, false, not, ◌&&◌, if◌then◌else◌, List, [], ◌∷◌, ◌++◌, length, Option, Some, None, is_some, nat_eq, nat_lt, slice_get}
 use Rattle.std.specs.List.{Contains}
 use Rattle.jr_flow_defs.specs.declared.point.Point.{Point}
 use Rattle.jr_flow_defs.specs.declared.point.PointKind.{PointKind}
@@ -72,6 +72,23 @@ pub record IsDefinedBefore (made : code.Graph) (count to row local : ℕ) : Type
   pub defines : slice_get made.points.items number ≡ point row (kind.Definition local)
   pub step : Contains (steps_of made) (number, to, false)
 
+-- each step was there before, or leads from the point to one that is none of the first
+abbrev pub OnlyBehind : code.Graph → code.Graph → ℕ → Type 0
+OnlyBehind old new from = (i j : ℕ) (t : Bool) → Contains (steps_of new) (i, j, t) → Contains (steps_of old) (i, j, t) ⊎ ((i ≡ from) × (length old.points.items ≤ j))
+
+-- a definition that is none of the first points stands before the point, with such a row and local
+pub record IsDefinedTo (made : code.Graph) (count to : ℕ) (P : ℕ → ℕ → Type 0) (i j : ℕ) : Type 0 where
+  pub row : ℕ
+  pub local : ℕ
+  pub is : P row local
+  pub late : count ≤ i
+  pub ends : j ≡ to
+  pub defines : slice_get made.points.items i ≡ point row (kind.Definition local)
+
+-- each step was there before, or leads from such a definition to the point
+abbrev pub OnlyDefines : code.Graph → code.Graph → ℕ → (ℕ → ℕ → Type 0) → Type 0
+OnlyDefines old new to P = (i j : ℕ) (t : Bool) → Contains (steps_of new) (i, j, t) → Contains (steps_of old) (i, j, t) ⊎ IsDefinedTo new (length old.points.items) to P i j
+
 -- ---- values that leave the method
 
 abbrev pub value_if : ℕ → ℕ → Bool → Option Value
@@ -105,6 +122,10 @@ pub record Leaves (points : List Point) (steps : StepList) (exit d row : ℕ) : 
 abbrev pub AreLeaving : List Point → StepList → Handing → ℕ → List Value → Type 0
 AreLeaving points steps handing exit values = (d row : ℕ) → Leaves points steps exit d row → use_in handing row ≡ None → Contains values (record { row = row; local = d })
 
+-- and each value is such
+abbrev pub OnlyLeaving : List Point → StepList → Handing → ℕ → List Value → Type 0
+OnlyLeaving points steps handing exit values = (v : Value) → Contains values v → Leaves points steps exit v.local v.row × (use_in handing v.row ≡ None)
+
 -- ---- uses behind the method
 
 abbrev pub pairs_by : (ℕ → Option ℕ) → List ℕ → List (ℕ × ℕ)
@@ -114,6 +135,10 @@ pairs_by origin (d ∷ all) = pair_of (origin d) (Some d) ++ pairs_by origin all
 -- under each old local stand its copies that are used at the points
 abbrev pub AreCopies : List Point → (ℕ → Option ℕ) → (ℕ → List ℕ) → Type 0
 AreCopies points origin copies = (k row copy old : ℕ) → slice_get points k ≡ point row (kind.Use copy) → origin copy ≡ Some old → Contains (copies old) copy
+
+-- and each local under an old one is a copy of it
+abbrev pub OnlyCopies : (ℕ → Option ℕ) → (ℕ → List ℕ) → Type 0
+OnlyCopies origin copies = (old copy : ℕ) → Contains (copies old) copy → origin copy ≡ Some old
 
 -- by numbers: from an exit of the method, by a throw or not, a use of the local is reached with no definition of it between
 pub record IsUsedBehind (points : List Point) (steps : StepList) (method : ℕ) (t : Bool) (local : ℕ) : Type 0 where
@@ -128,6 +153,29 @@ pub record IsUsedBehind (points : List Point) (steps : StepList) (method : ℕ) 
 pub record HasHub (points : List Point) (made : code.Graph) (method : ℕ) (t : Bool) (hub : ℕ) : Type 0 where
   pub stands : slice_get made.points.items hub ≡ point method kind.Node
   pub before : (k : ℕ) → is_exit_at method t (slice_get points k) ≡ true → Contains (steps_of made) (hub, k, false)
+
+-- each step was there before, or leads from the hub to an exit of the method
+abbrev pub OnlyHub : code.Graph → code.Graph → ℕ → Bool → Type 0
+OnlyHub graph made method t = (i j : ℕ) (u : Bool) → Contains (steps_of made) (i, j, u) → Contains (steps_of graph) (i, j, u) ⊎ ((i ≡ length graph.points.items) × (is_exit_at method t (slice_get graph.points.items j) ≡ true))
+
+abbrev pub IsOf : ℕ → ℕ → ℕ → ℕ → Type 0
+IsOf row local r l = (r ≡ row) × (l ≡ local)
+
+-- the local is another one than that of the value, among these, or a copy of the same old local, or so for one of some values
+pub record IsOtherOf (value : Value) (copies : List ℕ) (r l : ℕ) : Type 0 where
+  pub row : r ≡ value.row
+  pub among : Contains copies l
+  pub apart : value.local ≡ l → ⊥
+
+pub record IsCopyOf (value : Value) (copies : ℕ → List ℕ) (origin : ℕ → Option ℕ) (r l : ℕ) : Type 0 where
+  pub old : ℕ
+  pub is : origin value.local ≡ Some old
+  pub other : IsOtherOf value (copies old) r l
+
+pub record IsCopyOfOne (values : List Value) (copies : ℕ → List ℕ) (origin : ℕ → Option ℕ) (r l : ℕ) : Type 0 where
+  pub value : Value
+  pub member : Contains values value
+  pub copy : IsCopyOf value copies origin r l
 
 -- the copy of the local of a value, which is another one
 pub record IsOtherCopy (origin : ℕ → Option ℕ) (d copy : ℕ) : Type 0 where

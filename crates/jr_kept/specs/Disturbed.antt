@@ -49,6 +49,10 @@ pub record IsBetween (points : List Point) (steps : StepList) (d k : ℕ) : Type
 abbrev pub AreBetween : List Point → StepList → ℕ → Stamps → Stamps → Type 0
 AreBetween points steps d behind before = (k : ℕ) → IsBetween points steps d k → (PassesAt points (is_definition_of d) k → ⊥) → (is_stamped behind k ≡ true) × (is_stamped before k ≡ true)
 
+-- the points in both sets are such, and no definitions of the local
+abbrev pub OnlyBetween : List Point → StepList → ℕ → Stamps → Stamps → Type 0
+OnlyBetween points steps d behind before = (k : ℕ) → is_stamped behind k ≡ true → is_stamped before k ≡ true → IsBetween points steps d k × (PassesAt points (is_definition_of d) k → ⊥)
+
 -- ---- throws
 
 abbrev pub throws : ℕ → ℕ → List Point → Option code_step.Step → Bool
@@ -58,6 +62,11 @@ throws first end points (Some s) = s.is_throw && is_point_inside first end (slic
 -- where that is not told, none of the first steps is a throw from the initializer
 abbrev pub MayThrow : ℕ → ℕ → List Point → List code_step.Step → ℕ → Bool → Type 0
 MayThrow first end points steps n told = told ≡ false → (k : ℕ) → k < n → throws first end points (slice_get steps k) ≡ false
+
+-- one of the steps is a throw from the initializer
+pub record HasThrow (first end : ℕ) (points : List Point) (steps : List code_step.Step) : Type 0 where
+  pub number : ℕ
+  pub is : throws first end points (slice_get steps number) ≡ true
 
 -- a step by a throw leads from a point of the initializer
 pub record ThrowsInside (points : List Point) (steps : StepList) (first end : ℕ) : Type 0 where
@@ -100,6 +109,16 @@ pub record AddsIf (old new : Stamps) (bound : ℕ) (local : Option ℕ) : Type 0
   pub counted : IsStamping new bound
   pub kept : (n : ℕ) → is_stamped old n ≡ true → is_stamped new n ≡ true
   pub here : (n : ℕ) → local ≡ Some n → n < bound → is_stamped new n ≡ true
+  pub out : (n : ℕ) → is_stamped new n ≡ true → (is_stamped old n ≡ true) ⊎ (local ≡ Some n)
+
+-- one of the points holds the local
+pub record IsHeldAt (first end : ℕ) (may_throw : Bool) (points : List Point) (d : ℕ) : Type 0 where
+  pub number : ℕ
+  pub held : held_at first end may_throw (slice_get points number) ≡ Some d
+
+-- no other local is in the set
+abbrev pub OnlyHeld : ℕ → ℕ → Bool → List Point → Stamps → Type 0
+OnlyHeld first end may_throw points set = (d : ℕ) → is_stamped set d ≡ true → IsHeldAt first end may_throw points d
 
 -- those of the first points are in the set
 abbrev pub AreHeld : ℕ → ℕ → Bool → List Point → ℕ → Stamps → Type 0

@@ -75,6 +75,7 @@ is_original originals row = is_stamped originals.met row
 pub record AreOriginals (originals : Originals) (bound : ℕ) : Type 0 where
   pub counted : IsStamping originals.met bound
   pub listed : (n : ℕ) → is_original originals n ≡ true → Contains originals.all.items n
+  pub stamped : (n : ℕ) → Contains originals.all.items n → n < bound → is_original originals n ≡ true
 
 -- one more row, if there is one
 pub record AddsRow (old new : List ℕ) (row : Option ℕ) : Type 0 where

@@ -1,6 +1,8 @@
 -- What is handed on between a body and a method that it calls, by points.
-use Rattle.std.specs.Prelude.{◌≡◌, ◌⊎◌, ℕ, ◌<◌, Bool, not, ◌&&◌, List, Option, Some, None, IfSome, is_some, slice_get}
+use Rattle.std.specs.Prelude.{◌≡◌, ◌⊎◌, ℕ, ◌+◌, ◌-◌, ◌<◌, ◌≤◌, Bool, true, false, not, ◌&&◌, List, length, Option, Some, None, IfSome, is_some, nat_eq, slice_get}
 use Rattle.jr_tree.specs.Rows.{Rows, end}
+use Rattle.jr_change.specs.declared.change.RowRange.{RowRange}
+use Rattle.jr_locks.specs.Origins.{no_row}
 use Rattle.jr_flow_defs.specs.declared.point.Point.{Point}
 use Rattle.jr_flow_defs.specs.declared.point.PointKind.{PointKind}
 use Rattle.jr_flow_defs.specs.declared.point.PointKind.TheVariants as kind
@@ -70,6 +72,24 @@ pub record AreOne (a b : Option ℕ) : Type 0 where
 abbrev pub IsFrom : Handing → Option ℕ → ℕ → Type 0
 IsFrom handing from d = AreOne from (use_in handing d)
 
+abbrev pub are_one : Option ℕ → Option ℕ → Bool
+are_one None other = false
+are_one (Some row) None = false
+are_one (Some row) (Some same) = nat_eq row same
+
+-- there is none, or it is this one
+abbrev pub is_none_or : Option ℕ → Option ℕ → Bool
+is_none_or None row = true
+is_none_or (Some found) row = are_one (Some found) row
+
+abbrev pub is_from : Handing → Option ℕ → Option ℕ → Bool
+is_from handing None from = true
+is_from handing (Some d) from = are_one from (use_in handing d)
+
+abbrev pub has_pair : Handing → Option ℕ → Option ℕ → Bool
+has_pair handing definition None = true
+has_pair handing definition (Some k) = is_from handing definition (Some k)
+
 -- so it is with the first so many pairs, and definitions among points
 abbrev pub HasPairs : Handing → List ℕ → List ℕ → ℕ → Type 0
 HasPairs handing definitions uses n = (i d k : ℕ) → i < n → slice_get definitions i ≡ Some d → slice_get uses i ≡ Some k → use_in handing d ≡ Some k
@@ -110,3 +130,64 @@ pub record IsHandingOf (handing : Handing) (q : Rows) (points : List Point) (cal
   pub is : IsCrossing crossing q points call method origin
   pub only : OnlyCrosses handing crossing points
   pub all : HasCrossing handing crossing points origin
+
+-- ---- what a table gets
+
+-- the table has a place for each row of the range
+pub record Spans (handing : Handing) (span : RowRange) : Type 0 where
+  pub first : handing.first ≡ span.first
+  pub size : length handing.uses.items ≡ span.end - span.first
+
+-- the table has a place for the row
+pub record IsSpanned (handing : Handing) (d : ℕ) : Type 0 where
+  pub from : handing.first ≤ d
+  pub to : d < handing.first + length handing.uses.items
+
+-- where the table has a place for the definition it hands on from the use, and each other one does as before
+pub record PutsOne (old new : Handing) (definition from : Option ℕ) : Type 0 where
+  pub first : new.first ≡ old.first
+  pub size : length new.uses.items ≡ length old.uses.items
+  pub here : (d k : ℕ) → definition ≡ Some d → from ≡ Some k → (k ≡ no_row → ⊥) → IsSpanned old d → use_in new d ≡ Some k
+  pub kept : (d k : ℕ) → use_in old d ≡ Some k → ((j : ℕ) → definition ≡ Some d → from ≡ Some j → j ≡ k) → use_in new d ≡ Some k
+
+-- each definition is paired with one use
+abbrev pub ArePairedOnce : List ℕ → List ℕ → Type 0
+ArePairedOnce definitions uses = (d j k : ℕ) → IsPaired definitions uses d j → IsPaired definitions uses d k → j ≡ k
+
+pub record PutsPairs (old new : Handing) (definitions uses : List ℕ) (n : ℕ) : Type 0 where
+  pub first : new.first ≡ old.first
+  pub size : length new.uses.items ≡ length old.uses.items
+  pub every : (i d k : ℕ) → i < n → slice_get definitions i ≡ Some d → slice_get uses i ≡ Some k → (k ≡ no_row → ⊥) → IsSpanned old d → use_in new d ≡ Some k
+
+pub record PutsAssigned (old new : Handing) (points : List Point) (low high : ℕ) (from : Option ℕ) (n : ℕ) : Type 0 where
+  pub first : new.first ≡ old.first
+  pub size : length new.uses.items ≡ length old.uses.items
+  pub every : (i d k : ℕ) → i < n → defined_in low high (slice_get points i) ≡ Some d → from ≡ Some k → (k ≡ no_row → ⊥) → IsSpanned old d → use_in new d ≡ Some k
+  pub kept : (d k : ℕ) → use_in old d ≡ Some k → (IsDefinedAt points low high d → ⊥) → use_in new d ≡ Some k
+
+-- ---- where one table tells it
+
+-- a row that the range has, and that is none of no number
+pub record IsWithin (span : RowRange) (d : ℕ) : Type 0 where
+  pub from : span.first ≤ d
+  pub to : d < span.end
+
+abbrev pub IsRow : ℕ → Type 0
+IsRow k = k ≡ no_row → ⊥
+
+-- each definition is handed on from one use at most, all of them stand in the range, and one added use at most is returned: one if the call is assigned
+pub record CrossesOnce (span : RowRange) (crossing : Crossing) (points : List Point) (origin : Origin) : Type 0 where
+  pub once : ArePairedOnce crossing.parameters.items crossing.arguments.items
+  pub parameters : (d k : ℕ) → IsPaired crossing.parameters.items crossing.arguments.items d k → IsWithin span d × IsRow k
+  pub assigned : (d : ℕ) → IsAssignedIn crossing points d → IsWithin span d × ((k : ℕ) × (crossing.returned ≡ Some k) × IsRow k)
+  pub apart : (d k : ℕ) → IsPaired crossing.parameters.items crossing.arguments.items d k → IsAssignedIn crossing points d → ⊥
+  pub one : (k : ℕ) → IsAddedAt points crossing.method.first crossing.method.end origin k → crossing.returned ≡ Some k
+
+-- the same, by the rows of the call and the method
+pub record HandsOnce (span : RowRange) (q : Rows) (points : List Point) (call method : ℕ) (origin : Origin) : Type 0 where
+  pub once : ArePairedOnce (parameters q method) (children q call)
+  pub pairs : (d k : ℕ) → IsPaired (parameters q method) (children q call) d k → IsWithin span d × IsRow k
+  pub assigned : (d : ℕ) → IsDefinedAt points (statement_round q call call) (end q (statement_round q call call)) d → IsWithin span d × ((k : ℕ) × IsAddedAt points method (end q method) origin k)
+  pub apart : (d k : ℕ) → IsPaired (parameters q method) (children q call) d k → IsDefinedAt points (statement_round q call call) (end q (statement_round q call call)) d → ⊥
+  pub one : (j k : ℕ) → IsAddedAt points method (end q method) origin j → IsAddedAt points method (end q method) origin k → j ≡ k
+  pub rows : (k : ℕ) → IsAddedAt points method (end q method) origin k → IsRow k

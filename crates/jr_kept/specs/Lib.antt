@@ -15,3 +15,4 @@ pub mod Handed
 pub mod Carried
 pub mod Waiting
 pub mod Returned
+pub mod Started

@@ -82,3 +82,21 @@ pub data Waits (p : Rows) (body : ℕ) : ℕ → Pending → Type 0 where
 -- nothing is pending where control is at the row
 abbrev pub IsFree : Rows → ℕ → ℕ → Type 0
 IsFree p body k = (w : Pending) → Waits p body k w → w ≡ []
+
+-- what waits at the row where some wait further down: the same, unless a block of `finally` was passed
+pub record WaitsOn (p : Rows) (body at : ℕ) (is_held : Bool) (w : Pending) : Type 0 where
+  pub above : Pending
+  pub waits : Waits p body at above
+  pub same : is_held ≡ false → w ≡ above
+
+-- what waits at the row further down where some wait here: more, if a block of `finally` was passed
+pub record WaitsFor (p : Rows) (body row : ℕ) (is_held : Bool) (u : Pending) : Type 0 where
+  pub here : Pending
+  pub waits : Waits p body row here
+  pub held : is_held ≡ true → here ≡ [] → ⊥
+  pub longer : here ≡ [] → u ≡ []
+
+-- on the way up from a row of the body, with whether a block of `finally` was passed
+pub record IsGoingUp (p : Rows) (body row at : ℕ) (is_held : Bool) : Type 0 where
+  pub out : (w : Pending) → Waits p body row w → WaitsOn p body at is_held w
+  pub into : (u : Pending) → Waits p body at u → WaitsFor p body row is_held u

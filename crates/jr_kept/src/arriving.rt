@@ -4,7 +4,7 @@ ghost use Rattle.std.specs.List.{Contains};
 ghost use Rattle.jr_places.specs.Stamps.{is_stamped, IsStamping, IsEmptied};
 ghost use Rattle.jr_kept.specs.Listed.{under_in};
 ghost use Rattle.jr_kept.specs.Named.{origin_in};
-ghost use Rattle.jr_kept.specs.Ordered.{Checks};
+ghost use Rattle.jr_kept.specs.Ordered.{AreNone, Checks, Tells};
 ghost use Rattle.jr_kept.specs.Gathered.{use_in, is_original, AreBelow, AreInside, AreOriginals};
 ghost use Rattle.jr_kept.specs.Arrived as tell;
 
@@ -35,7 +35,7 @@ struct Uses<'a> {
 
 // Puts an edge of the old program from a definition to a use, unless it is there.
 fn put_old_unless(rows: &[Row], definition: u32, used: u32, is_there: bool, lost: &mut Firsts)
-    ensures { Checks lost.old lost.new (is_there ≡ true) }
+    ensures { Tells lost.old lost.new (is_there ≡ true) }
 {
     if !is_there {
         lost.put_old(Edge {
@@ -47,7 +47,7 @@ fn put_old_unless(rows: &[Row], definition: u32, used: u32, is_there: bool, lost
 
 // Puts an edge of the changed program from a definition to a use, unless it is there.
 fn put_new_unless(rows: &[Row], definition: u32, used: u32, is_there: bool, lost: &mut Firsts)
-    ensures { Checks lost.old lost.new (is_there ≡ true) }
+    ensures { Tells lost.old lost.new (is_there ≡ true) }
 {
     if !is_there {
         lost.put_new(Edge {
@@ -65,7 +65,7 @@ fn put_old_alone(
     used: u32,
     lost: &mut Firsts,
 )
-    ensures { Checks lost.old lost.new ((n : ℕ) → Contains definitions.now n → is_original originals.now n ≡ true) }
+    ensures { Tells lost.old lost.new ((n : ℕ) → Contains definitions.now n → is_original originals.now n ≡ true) }
 {
     for definition in definitions {
         put_old_unless(rows, *definition, used, originals.has(*definition), lost);
@@ -74,7 +74,7 @@ fn put_old_alone(
 
 // Puts the definitions that reach the copy of the old use, and not this.
 fn put_new_alone(rows: &[Row], definitions: &[u32], old: &Stamps, used: u32, lost: &mut Firsts)
-    ensures { Checks lost.old lost.new ((n : ℕ) → Contains definitions.now n → is_stamped old.now n ≡ true) }
+    ensures { Tells lost.old lost.new ((n : ℕ) → Contains definitions.now n → is_stamped old.now n ≡ true) }
 {
     for definition in definitions {
         put_new_unless(rows, *definition, used, old.has(*definition), lost);
@@ -83,7 +83,7 @@ fn put_new_alone(rows: &[Row], definitions: &[u32], old: &Stamps, used: u32, los
 
 /// Puts rows into a set.
 pub(crate) fn fill(set: &mut Stamps, rows: &[u32])
-    ensures { (bound : ℕ) → IsEmptied set.old bound → IsStamping set.new bound × ((n : ℕ) → is_stamped set.new n ≡ true → Contains rows.now n) }
+    ensures { (bound : ℕ) → IsEmptied set.old bound → IsStamping set.new bound × ((n : ℕ) → is_stamped set.new n ≡ true → Contains rows.now n) × ((n : ℕ) → Contains rows.now n → n < bound → is_stamped set.new n ≡ true) }
 {
     for row in rows {
         let _ = set.add(*row);
@@ -106,7 +106,8 @@ impl Sides {
         old: u32,
         lost: &mut Firsts,
     ) -> Result<(), OutOfMemory>
-        ensures { (many bound : ℕ) → AreInside (under_in uses.now.after.now) bound → tell.AreSides self.old many bound → OnOk result (tell.AreSides self.new many bound × Checks lost.old lost.new (tell.IsSame uses.now used old)) }
+        ensures checks { (many bound : ℕ) → AreInside (under_in uses.now.after.now) bound → tell.AreSides self.old many bound → OnOk result (tell.AreSides self.new many bound × Checks lost.old lost.new (tell.IsSame uses.now used old)) }
+        ensures kept { (many bound : ℕ) → AreInside (under_in uses.now.before.now) many → AreInside (under_in uses.now.after.now) bound → tell.AreSides self.old many bound → OnOk result (AreNone lost.old → tell.IsSame uses.now used old → AreNone lost.new) }
     {
         self.known.empty()?;
         self.gathering
@@ -160,8 +161,9 @@ impl Comparing {
         old: u32,
         lost: &mut Firsts,
     ) -> Result<(), OutOfMemory>
-        ensures { (many bound : ℕ) → AreInside (under_in uses.now.after.now) bound → used < bound → origin_in uses.now.origin.now used ≡ Some old → tell.CanCompare self.old many bound
+        ensures checks { (many bound : ℕ) → AreInside (under_in uses.now.after.now) bound → used < bound → origin_in uses.now.origin.now used ≡ Some old → tell.CanCompare self.old many bound
             → OnOk result (tell.CanCompare self.new many bound × tell.Compares uses.now self.old.done self.new.done lost.old lost.new × (is_stamped self.new.done used ≡ true)) }
+        ensures kept { (many bound : ℕ) → AreInside (under_in uses.now.before.now) many → AreInside (under_in uses.now.after.now) bound → tell.CanCompare self.old many bound → OnOk result (AreNone lost.old → tell.IsSame uses.now used old → AreNone lost.new) }
     {
         if self.done.add(used) {
             return self.sides.compare(uses, used, old, lost);
@@ -176,8 +178,10 @@ impl Comparing {
         point: Point,
         lost: &mut Firsts,
     ) -> Result<(), OutOfMemory>
-        ensures { (many bound : ℕ) → AreInside (under_in uses.now.after.now) bound → point.row < bound → tell.CanCompare self.old many bound
+        ensures checks { (many bound : ℕ) → AreInside (under_in uses.now.after.now) bound → point.row < bound → tell.CanCompare self.old many bound
             → OnOk result (tell.CanCompare self.new many bound × tell.Compares uses.now self.old.done self.new.done lost.old lost.new × tell.IsDone uses.now self.new.done point) }
+        ensures kept { (many bound : ℕ) → AreInside (under_in uses.now.before.now) many → AreInside (under_in uses.now.after.now) bound → tell.CanCompare self.old many bound
+            → OnOk result (AreNone lost.old → ((old : ℕ) → tell.old_use (origin_in uses.now.origin.now) point ≡ Some old → tell.IsSame uses.now point.row old) → AreNone lost.new) }
     {
         match old_use(uses.origin, point) {
             Some(old) => self.compare(uses, point.row, old, lost),
@@ -192,8 +196,10 @@ impl Comparing {
         points: &[Point],
         lost: &mut Firsts,
     ) -> Result<(), OutOfMemory>
-        ensures { (many bound : ℕ) → AreInside (under_in uses.now.after.now) bound → AreBelow points.now (length points.now) bound → tell.CanCompare self.old many bound
+        ensures checks { (many bound : ℕ) → AreInside (under_in uses.now.after.now) bound → AreBelow points.now (length points.now) bound → tell.CanCompare self.old many bound
             → OnOk result (tell.Compares uses.now self.old.done self.new.done lost.old lost.new × tell.AreDone uses.now self.new.done points.now (length points.now)) }
+        ensures kept { (many bound : ℕ) → AreInside (under_in uses.now.before.now) many → AreInside (under_in uses.now.after.now) bound → AreBelow points.now (length points.now) bound → tell.CanCompare self.old many bound
+            → OnOk result (AreNone lost.old → tell.AreSame uses.now points.now → AreNone lost.new) }
     {
         for number in 0..points.len() {
             let Some(point) = point_at(points, number) else {
@@ -224,7 +230,8 @@ fn compare_uses(
     new: usize,
     lost: &mut Firsts,
 ) -> Result<(), OutOfMemory>
-    ensures { AreInside (under_in uses.now.after.now) new → AreBelow points.now (length points.now) new → OnOk result (Checks lost.old lost.new (tell.AreSame uses.now points.now)) }
+    ensures checks { AreInside (under_in uses.now.after.now) new → AreBelow points.now (length points.now) new → OnOk result (Checks lost.old lost.new (tell.AreSame uses.now points.now)) }
+    ensures kept { AreInside (under_in uses.now.before.now) old → AreInside (under_in uses.now.after.now) new → AreBelow points.now (length points.now) new → OnOk result (AreNone lost.old → tell.AreSame uses.now points.now → AreNone lost.new) }
 {
     let mut comparing = Comparing::new(alloc, old, new)?;
     comparing.compare_all(uses, points, lost)
@@ -238,7 +245,8 @@ pub(crate) fn put_lost_definitions(
     handing: &Handing,
     lost: &mut Firsts,
 ) -> Result<(), OutOfMemory>
-    ensures { OnOk result (Checks lost.old lost.new (tell.KeepsUses flows.now (use_in handing.now))) }
+    ensures checks { OnOk result (Checks lost.old lost.new (tell.KeepsUses flows.now (use_in handing.now))) }
+    ensures kept { OnOk result (AreNone lost.old → tell.KeepsUses flows.now (use_in handing.now) → AreNone lost.new) }
 {
     let before = definitions_by_use(alloc, flows.before)?;
     let after = definitions_by_use(alloc, flows.after)?;

@@ -1,5 +1,5 @@
 // Values of locals that an added method does not hand back.
-ghost use Rattle.std.specs.Prelude.{◌≡◌, ◌<◌, ◌≤◌, ◌++◌, ◌∷◌, [], ℕ, Bool, Some, None, true, false, IfOk, OnOk, length, not, nat_lt, slice_get};
+ghost use Rattle.std.specs.Prelude.{◌≡◌, ◌⊎◌, ◌<◌, ◌≤◌, ◌++◌, ◌∷◌, [], ℕ, Bool, Some, None, true, false, IfOk, OnOk, length, not, nat_lt, slice_get};
 ghost use Rattle.std.specs.List.{Contains};
 ghost use Rattle.jr_flow_defs.specs.declared.point.PointKind.TheVariants as kind;
 ghost use Rattle.jr_flow_defs.specs.Edges.{point};
@@ -8,7 +8,7 @@ ghost use Rattle.jr_kept.specs.Disturbed.{some_if};
 ghost use Rattle.jr_kept.specs.Gathered.{AddsRow, AreOriginals};
 ghost use Rattle.jr_kept.specs.Listed.{under_in};
 ghost use Rattle.jr_kept.specs.Named.{origin_in};
-ghost use Rattle.jr_kept.specs.Ordered.{Checks};
+ghost use Rattle.jr_kept.specs.Ordered.{AreNone, Checks, Tells};
 ghost use Rattle.jr_kept.specs.Searched.{AreWithin};
 ghost use Rattle.jr_kept.specs.Spliced.{exit_number};
 ghost use Rattle.jr_kept.specs.Carried as tell;
@@ -120,7 +120,8 @@ fn put_step(made: &mut Graph, from: u32, to: u32) -> Result<(), OutOfMemory>
 
 // Puts a use of the local behind a point.
 fn put_use(made: &mut Graph, from: u32, local: u32) -> Result<(), OutOfMemory>
-    ensures { OnOk result (tell.Grows made.old made.new × tell.IsUsedAfter made.new (length made.old.points.items) from local) }
+    ensures every { OnOk result (tell.Grows made.old made.new × tell.IsUsedAfter made.new (length made.old.points.items) from local) }
+    ensures only { OnOk result (tell.OnlyBehind made.old made.new from) }
 {
     let point = Point {
         row: 0,
@@ -133,7 +134,8 @@ fn put_use(made: &mut Graph, from: u32, local: u32) -> Result<(), OutOfMemory>
 
 // Puts a use of each local behind a point.
 fn put_uses(made: &mut Graph, from: u32, locals: &[u32]) -> Result<(), OutOfMemory>
-    ensures { OnOk result (tell.Grows made.old made.new × ((d : ℕ) → Contains locals.now d → tell.IsUsedAfter made.new (length made.old.points.items) from d)) }
+    ensures every { OnOk result (tell.Grows made.old made.new × ((d : ℕ) → Contains locals.now d → tell.IsUsedAfter made.new (length made.old.points.items) from d)) }
+    ensures only { OnOk result (tell.OnlyBehind made.old made.new from) }
 {
     for local in locals {
         put_use(made, from, *local)?;
@@ -143,7 +145,8 @@ fn put_uses(made: &mut Graph, from: u32, locals: &[u32]) -> Result<(), OutOfMemo
 
 // Puts a definition of the local at the row before a point.
 fn put_definition(made: &mut Graph, to: u32, row: u32, local: u32) -> Result<(), OutOfMemory>
-    ensures { OnOk result (tell.Grows made.old made.new × tell.IsDefinedBefore made.new (length made.old.points.items) to row local) }
+    ensures every { OnOk result (tell.Grows made.old made.new × tell.IsDefinedBefore made.new (length made.old.points.items) to row local) }
+    ensures only { OnOk result (tell.OnlyDefines made.old made.new to (tell.IsOf row local)) }
 {
     let point = Point {
         row,
@@ -222,7 +225,8 @@ fn leaving(
     handing: &Handing,
     is_throw: bool,
 ) -> Result<Vec<Value>, OutOfMemory>
-    ensures { AreWithin (length method.now.points.items) (steps_of method.now) → tell.HasExits method.now.points.items method.now.body → IfOk result (λ values. tell.AreLeaving method.now.points.items (steps_of method.now) handing.now (exit_number is_throw) values.items) }
+    ensures every { AreWithin (length method.now.points.items) (steps_of method.now) → tell.HasExits method.now.points.items method.now.body → IfOk result (λ values. tell.AreLeaving method.now.points.items (steps_of method.now) handing.now (exit_number is_throw) values.items) }
+    ensures only { AreWithin (length method.now.points.items) (steps_of method.now) → tell.HasExits method.now.points.items method.now.body → IfOk result (λ values. tell.OnlyLeaving method.now.points.items (steps_of method.now) handing.now (exit_number is_throw) values.items) }
 {
     let count = count_of(method.points.len())?;
     let locals = locals_at(alloc, method.points.as_slice(), true)?;
@@ -247,7 +251,8 @@ fn copy_pairs(alloc: Global, origin: &[u32], locals: &[u32]) -> Result<Vec<(u32,
 
 // The copies of each old local that are used at the points.
 fn copies_used(alloc: Global, points: &[Point], origin: &[u32]) -> Result<Lists, OutOfMemory>
-    ensures { IfOk result (λ copies. tell.AreCopies points.now (origin_in origin.now) (under_in copies)) }
+    ensures every { IfOk result (λ copies. tell.AreCopies points.now (origin_in origin.now) (under_in copies)) }
+    ensures only { IfOk result (λ copies. tell.OnlyCopies (origin_in origin.now) (under_in copies)) }
 {
     let locals = locals_at(alloc, points, false)?;
     let pairs = copy_pairs(alloc, origin, locals.rows())?;
@@ -279,6 +284,7 @@ fn put_step_if(made: &mut Graph, from: u32, to: u32, is_such: bool) -> Result<()
     ensures points { OnOk result (made.new.points.items ≡ made.old.points.items) }
     ensures kept { OnOk result ((i j : ℕ) (t : Bool) → Contains (steps_of made.old) (i, j, t) → Contains (steps_of made.new) (i, j, t)) }
     ensures here { OnOk result (is_such ≡ true → Contains (steps_of made.new) (from, to, false)) }
+    ensures only { OnOk result ((i j : ℕ) (t : Bool) → Contains (steps_of made.new) (i, j, t) → Contains (steps_of made.old) (i, j, t) ⊎ ((i ≡ from) × (j ≡ to) × (is_such ≡ true))) }
 {
     if is_such {
         put_step(made, from, to)?;
@@ -297,6 +303,7 @@ fn put_exits(
     ensures points { OnOk result (made.new.points.items ≡ made.old.points.items) }
     ensures kept { OnOk result ((i j : ℕ) (t : Bool) → Contains (steps_of made.old) (i, j, t) → Contains (steps_of made.new) (i, j, t)) }
     ensures here { OnOk result ((k : ℕ) → k < length points.now → tell.is_exit_at method is_throw (slice_get points.now k) ≡ true → Contains (steps_of made.new) (hub, k, false)) }
+    ensures only { OnOk result ((i j : ℕ) (t : Bool) → Contains (steps_of made.new) (i, j, t) → Contains (steps_of made.old) (i, j, t) ⊎ ((i ≡ hub) × (tell.is_exit_at method is_throw (slice_get points.now j) ≡ true))) }
 {
     let count = count_of(points.len())?;
     for number in 0..count {
@@ -310,6 +317,7 @@ fn put_exits(
 fn with_hub(alloc: Global, graph: &Graph, method: u32, is_throw: bool) -> Result<Graph, OutOfMemory>
     ensures grows { IfOk result (λ made. tell.Grows graph.now made) }
     ensures hub { IfOk result (λ made. tell.HasHub graph.now.points.items made method is_throw (length graph.now.points.items)) }
+    ensures only { IfOk result (λ made. tell.OnlyHub graph.now made method is_throw) }
 {
     let hub = count_of(graph.points.len())?;
     let mut made = copy_of(alloc, graph)?;
@@ -323,7 +331,8 @@ fn with_hub(alloc: Global, graph: &Graph, method: u32, is_throw: bool) -> Result
 
 // Puts a definition of the copy before the hub, unless it is the local of the value itself.
 fn put_other(made: &mut Graph, hub: u32, value: Value, copy: u32) -> Result<(), OutOfMemory>
-    ensures { OnOk result (tell.Grows made.old made.new × ((value.local ≡ copy → ⊥) → tell.IsDefinedBefore made.new (length made.old.points.items) hub value.row copy)) }
+    ensures every { OnOk result (tell.Grows made.old made.new × ((value.local ≡ copy → ⊥) → tell.IsDefinedBefore made.new (length made.old.points.items) hub value.row copy)) }
+    ensures only { OnOk result (tell.OnlyDefines made.old made.new hub (tell.IsOtherOf value (copy ∷ []))) }
 {
     if value.local == copy {
         return Ok(());
@@ -333,7 +342,8 @@ fn put_other(made: &mut Graph, hub: u32, value: Value, copy: u32) -> Result<(), 
 
 // Puts definitions of the copies before the hub.
 fn put_others(made: &mut Graph, hub: u32, value: Value, copies: &[u32]) -> Result<(), OutOfMemory>
-    ensures { OnOk result (tell.Grows made.old made.new × ((copy : ℕ) → Contains copies.now copy → (value.local ≡ copy → ⊥) → tell.IsDefinedBefore made.new (length made.old.points.items) hub value.row copy)) }
+    ensures every { OnOk result (tell.Grows made.old made.new × ((copy : ℕ) → Contains copies.now copy → (value.local ≡ copy → ⊥) → tell.IsDefinedBefore made.new (length made.old.points.items) hub value.row copy)) }
+    ensures only { OnOk result (tell.OnlyDefines made.old made.new hub (tell.IsOtherOf value copies.now)) }
 {
     for copy in copies {
         put_other(made, hub, value, *copy)?;
@@ -349,7 +359,8 @@ fn put_value(
     copies: &Lists,
     origin: &[u32],
 ) -> Result<(), OutOfMemory>
-    ensures { OnOk result (tell.Grows made.old made.new × ((copy old : ℕ) → origin_in origin.now value.local ≡ Some old → Contains (under_in copies.now old) copy → (value.local ≡ copy → ⊥) → tell.IsDefinedBefore made.new (length made.old.points.items) hub value.row copy)) }
+    ensures every { OnOk result (tell.Grows made.old made.new × ((copy old : ℕ) → origin_in origin.now value.local ≡ Some old → Contains (under_in copies.now old) copy → (value.local ≡ copy → ⊥) → tell.IsDefinedBefore made.new (length made.old.points.items) hub value.row copy)) }
+    ensures only { OnOk result (tell.OnlyDefines made.old made.new hub (tell.IsCopyOf value (under_in copies.now) (origin_in origin.now))) }
 {
     match row_for(origin, value.local) {
         Some(old) => put_others(made, hub, value, copies.under(old)),
@@ -364,7 +375,8 @@ fn put_values(
     copies: &Lists,
     origin: &[u32],
 ) -> Result<(), OutOfMemory>
-    ensures { OnOk result (tell.Grows made.old made.new × tell.AreDefined made.new (length made.old.points.items) hub values.now (under_in copies.now) (origin_in origin.now)) }
+    ensures every { OnOk result (tell.Grows made.old made.new × tell.AreDefined made.new (length made.old.points.items) hub values.now (under_in copies.now) (origin_in origin.now)) }
+    ensures only { OnOk result (tell.OnlyDefines made.old made.new hub (tell.IsCopyOfOne values.now (under_in copies.now) (origin_in origin.now))) }
 {
     for value in values {
         put_value(made, hub, *value, copies, origin)?;
@@ -401,7 +413,7 @@ fn put_late(
     is_early: bool,
     lost: &mut Firsts,
 )
-    ensures { Checks lost.old lost.new (is_early ≡ true) }
+    ensures { Tells lost.old lost.new (is_early ≡ true) }
 {
     if !is_early {
         lost.put_old(edge_between(flows, row_at(points, definition), row_at(points, used)));
@@ -415,7 +427,7 @@ fn put_all_late(
     count: u32,
     lost: &mut Firsts,
 )
-    ensures { Checks lost.old lost.new ((x : ℕ × ℕ) → Contains pairs.now x → x.0 < count) }
+    ensures { Tells lost.old lost.new ((x : ℕ × ℕ) → Contains pairs.now x → x.0 < count) }
 {
     for (definition, used) in pairs {
         put_late(flows, points, *definition, *used, *definition < count, lost);
@@ -432,7 +444,9 @@ fn put_used_behind(
     copies: &Lists,
     lost: &mut Firsts,
 ) -> Result<(), OutOfMemory>
-    ensures { AreWithin (length flows.now.after.now.points.items) (steps_of flows.now.after.now) → tell.AreCopies flows.now.after.now.points.items (origin_in flows.now.origin.now) (under_in copies.now)
+    ensures kept { AreWithin (length flows.now.after.now.points.items) (steps_of flows.now.after.now) → tell.OnlyCopies (origin_in flows.now.origin.now) (under_in copies.now)
+        → OnOk result (AreNone lost.old → tell.NoneBehind flows.now.after.now.points.items (steps_of flows.now.after.now) method is_throw (origin_in flows.now.origin.now) values.now → AreNone lost.new) }
+    ensures checks { AreWithin (length flows.now.after.now.points.items) (steps_of flows.now.after.now) → tell.AreCopies flows.now.after.now.points.items (origin_in flows.now.origin.now) (under_in copies.now)
         → OnOk result (Checks lost.old lost.new (tell.NoneBehind flows.now.after.now.points.items (steps_of flows.now.after.now) method is_throw (origin_in flows.now.origin.now) values.now)) }
 {
     let hub = count_of(flows.after.points.len())?;
@@ -453,7 +467,9 @@ fn put_lost_by(
     is_throw: bool,
     lost: &mut Firsts,
 ) -> Result<(), OutOfMemory>
-    ensures { AreWithin (length method.now.points.items) (steps_of method.now) → tell.HasExits method.now.points.items method.now.body → AreWithin (length flows.now.after.now.points.items) (steps_of flows.now.after.now) → tell.AreCopies flows.now.after.now.points.items (origin_in flows.now.origin.now) (under_in copies.now)
+    ensures kept { AreWithin (length method.now.points.items) (steps_of method.now) → tell.HasExits method.now.points.items method.now.body → AreWithin (length flows.now.after.now.points.items) (steps_of flows.now.after.now) → tell.OnlyCopies (origin_in flows.now.origin.now) (under_in copies.now)
+        → OnOk result (AreNone lost.old → tell.IsUnlostBy method.now flows.now.after.now handing.now (origin_in flows.now.origin.now) is_throw → AreNone lost.new) }
+    ensures checks { AreWithin (length method.now.points.items) (steps_of method.now) → tell.HasExits method.now.points.items method.now.body → AreWithin (length flows.now.after.now.points.items) (steps_of flows.now.after.now) → tell.AreCopies flows.now.after.now.points.items (origin_in flows.now.origin.now) (under_in copies.now)
         → OnOk result (Checks lost.old lost.new (tell.IsUnlostBy method.now flows.now.after.now handing.now (origin_in flows.now.origin.now) is_throw)) }
 {
     let values = leaving(alloc, method, handing, is_throw)?;
@@ -469,7 +485,9 @@ pub(crate) fn put_lost_values(
     handing: &Handing,
     lost: &mut Firsts,
 ) -> Result<(), OutOfMemory>
-    ensures { AreWithin (length method.now.points.items) (steps_of method.now) → tell.HasExits method.now.points.items method.now.body → AreWithin (length flows.now.after.now.points.items) (steps_of flows.now.after.now)
+    ensures kept { AreWithin (length method.now.points.items) (steps_of method.now) → tell.HasExits method.now.points.items method.now.body → AreWithin (length flows.now.after.now.points.items) (steps_of flows.now.after.now)
+        → OnOk result (AreNone lost.old → tell.IsUnlost method.now flows.now.after.now handing.now (origin_in flows.now.origin.now) → AreNone lost.new) }
+    ensures checks { AreWithin (length method.now.points.items) (steps_of method.now) → tell.HasExits method.now.points.items method.now.body → AreWithin (length flows.now.after.now.points.items) (steps_of flows.now.after.now)
         → OnOk result (Checks lost.old lost.new (tell.IsUnlost method.now flows.now.after.now handing.now (origin_in flows.now.origin.now))) }
 {
     let copies = copies_used(alloc, flows.after.points.as_slice(), flows.origin)?;

@@ -1,9 +1,9 @@
 // Definitions that keep a local from being replaced by its initializer.
 ghost use Rattle.std.specs.Prelude.{◌≡◌, ◌+◌, ◌<◌, ◌≤◌, ◌^◌, ◌||◌, ℕ, Some, true, false, if◌then◌else◌, IfOk, IfSome, OnOk, length, slice_get};
 ghost use Rattle.std.specs.List.{Contains};
-ghost use Rattle.jr_places.specs.Stamps.{is_stamped, IsStamping};
+ghost use Rattle.jr_places.specs.Stamps.{is_stamped, IsEmptied, IsStamping};
 ghost use Rattle.jr_flow.specs.Reached.{steps_of};
-ghost use Rattle.jr_kept.specs.Ordered.{Checks};
+ghost use Rattle.jr_kept.specs.Ordered.{AreNone, Checks, Tells};
 ghost use Rattle.jr_kept.specs.Searched.{AreWithin};
 ghost use Rattle.jr_kept.specs.Disturbed as tell;
 
@@ -71,7 +71,8 @@ struct Between {
 
 // The points as a set.
 fn set_of(alloc: Global, points: &[u32], count: usize) -> Result<Stamps, OutOfMemory>
-    ensures { IfOk result (λ set. (n : ℕ) → is_stamped set n ≡ true → Contains points.now n) }
+    ensures only { IfOk result (λ set. (n : ℕ) → is_stamped set n ≡ true → Contains points.now n) }
+    ensures every { IfOk result (λ set. (n : ℕ) → Contains points.now n → n < count → is_stamped set n ≡ true) }
 {
     let mut set = Stamps::new(alloc, count)?;
     fill(&mut set, points);
@@ -80,7 +81,8 @@ fn set_of(alloc: Global, points: &[u32], count: usize) -> Result<Stamps, OutOfMe
 
 // The points on ways from the definition of the local to a use of it that do not come back to the definition.
 fn points_between(alloc: Global, graph: &Graph, local: u32) -> Result<Between, OutOfMemory>
-    ensures { AreWithin (length graph.now.points.items) (steps_of graph.now) → IfOk result (λ made. tell.AreBetween graph.now.points.items (steps_of graph.now) local made.behind made.before) }
+    ensures every { AreWithin (length graph.now.points.items) (steps_of graph.now) → IfOk result (λ made. tell.AreBetween graph.now.points.items (steps_of graph.now) local made.behind made.before) }
+    ensures only { AreWithin (length graph.now.points.items) (steps_of graph.now) → IfOk result (λ made. tell.OnlyBetween graph.now.points.items (steps_of graph.now) local made.behind made.before) }
 {
     let count = graph.points.len();
     let definitions = numbers_of(alloc, graph.points.as_slice(), local, true)?;
@@ -121,7 +123,8 @@ fn throws(range: RowRange, points: &[Point], step: Option<Step>) -> bool
     }
 }
 
-fn is_either(one: bool, other: bool) -> bool
+/// One of both holds, or both do.
+pub(crate) fn is_either(one: bool, other: bool) -> bool
     ensures { result ≡ (one || other) }
 {
     one || other
@@ -129,7 +132,8 @@ fn is_either(one: bool, other: bool) -> bool
 
 // An event in the initializer may throw.
 fn may_throw(range: RowRange, points: &[Point], steps: &[Step]) -> bool
-    ensures { tell.MayThrow range.first range.end points.now steps.now (length steps.now) result }
+    ensures none { tell.MayThrow range.first range.end points.now steps.now (length steps.now) result }
+    ensures some { result ≡ true → tell.HasThrow range.first range.end points.now steps.now }
 {
     let mut found = false;
     for number in 0..steps.len() {
@@ -206,7 +210,8 @@ fn add_if(set: &mut Stamps, local: Option<u32>)
 }
 
 fn put_held(set: &mut Stamps, range: RowRange, may_throw: bool, points: &[Point])
-    ensures { (bound : ℕ) → IsStamping set.old bound → tell.AreLocalsBelow points.now (length points.now) bound → tell.AreHeld range.first range.end may_throw points.now (length points.now) set.new }
+    ensures { (bound : ℕ) → IsEmptied set.old bound → tell.AreLocalsBelow points.now (length points.now) bound
+        → tell.AreHeld range.first range.end may_throw points.now (length points.now) set.new × tell.OnlyHeld range.first range.end may_throw points.now set.new }
 {
     for number in 0..points.len() {
         add_if(set, held(range, may_throw, point_at(points, number)));
@@ -220,7 +225,8 @@ fn all_held(
     may_throw: bool,
     points: &[Point],
 ) -> Result<Stamps, OutOfMemory>
-    ensures { IfOk result (λ set. tell.AreHeld range.first range.end may_throw points.now (length points.now) set) }
+    ensures every { IfOk result (λ set. tell.AreHeld range.first range.end may_throw points.now (length points.now) set) }
+    ensures only { IfOk result (λ set. tell.OnlyHeld range.first range.end may_throw points.now set) }
 {
     let mut set = Stamps::new(alloc, local_bound(points))?;
     put_held(&mut set, range, may_throw, points);
@@ -249,7 +255,7 @@ fn is_changed(number: u32, local: u32, held: &Stamps, between: &Between) -> bool
 
 // Puts an edge from a definition to itself, if it is such.
 fn put_if(rows: &[Row], definition: u32, is_such: bool, lost: &mut Firsts)
-    ensures { Checks lost.old lost.new (is_such ≡ false) }
+    ensures { Tells lost.old lost.new (is_such ≡ false) }
 {
     if is_such {
         let row = defining_row(rows, definition);
@@ -268,7 +274,7 @@ fn put_all(
     between: &Between,
     lost: &mut Firsts,
 ) -> Result<(), OutOfMemory>
-    ensures { OnOk result (Checks lost.old lost.new (tell.NoneDisturbs range.first range.end held.now between.now.behind between.now.before points.now (length points.now))) }
+    ensures { OnOk result (Tells lost.old lost.new (tell.NoneDisturbs range.first range.end held.now between.now.behind between.now.before points.now (length points.now))) }
 {
     let count = count_of(points.len())?;
     for number in 0..count {
@@ -294,7 +300,8 @@ pub(crate) fn put_disturbing(
     local: u32,
     lost: &mut Firsts,
 ) -> Result<(), OutOfMemory>
-    ensures { AreWithin (length graph.now.points.items) (steps_of graph.now) → OnOk result (Checks lost.old lost.new (local + 1 < 2 ^ 32 → tell.IsUndisturbed rows.now graph.now.points.items (steps_of graph.now) local)) }
+    ensures checks { AreWithin (length graph.now.points.items) (steps_of graph.now) → OnOk result (Checks lost.old lost.new (local + 1 < 2 ^ 32 → tell.IsUndisturbed rows.now graph.now.points.items (steps_of graph.now) local)) }
+    ensures kept { AreWithin (length graph.now.points.items) (steps_of graph.now) → OnOk result (AreNone lost.old → local + 1 < 2 ^ 32 → tell.IsUndisturbed rows.now graph.now.points.items (steps_of graph.now) local → AreNone lost.new) }
 {
     let range = rows_of(rows, local);
     let throwing = may_throw(range, graph.points.as_slice(), graph.steps.as_slice());

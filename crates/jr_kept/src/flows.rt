@@ -1,9 +1,8 @@
 // A body before and after the change.
-ghost use Rattle.std.specs.Prelude.{◌≡◌, ◌+◌, ◌-◌, ◌<◌, ◌≤◌, ◌^◌, ◌&&◌, ℕ, if◌then◌else◌, Some, IfOk, IfSome, Decides, length, nat_lt, not};
-ghost use Rattle.std.specs.List.{Contains};
+ghost use Rattle.std.specs.Prelude.{◌≡◌, ◌+◌, ◌-◌, ◌<◌, ◌≤◌, ◌^◌, ◌&&◌, ℕ, if◌then◌else◌, None, Some, IfOk, IfSome, Decides, length, nat_lt, not};
 ghost use Rattle.jr_tree.specs.Rows as tree;
 ghost use Rattle.jr_flow_defs.specs.Acts as acts;
-ghost use Rattle.jr_kept.specs.Courses.{IsBody, IsBodyRound};
+ghost use Rattle.jr_kept.specs.Courses.{AreBodies, IsBodyRound};
 
 use crate::names::Names;
 use jr_base::OutOfMemory;
@@ -82,7 +81,8 @@ fn last_if(found: Option<u32>, is_such: bool, body: u32) -> Option<u32>
 
 // The last of some bodies in which a row stands.
 fn body_among(rows: &[Row], bodies: &[u32], row: u32) -> Option<u32>
-    ensures { length rows.now < 2 ^ 32 → ((k : ℕ) → Contains bodies.now k → IsBody rows.now k) → IfSome result (λ body. IsBodyRound rows.now row body) }
+    ensures round { length rows.now < 2 ^ 32 → AreBodies rows.now bodies.now → IfSome result (λ body. IsBodyRound rows.now row body) }
+    ensures none { length rows.now < 2 ^ 32 → AreBodies rows.now bodies.now → result ≡ None → (body : ℕ) → IsBodyRound rows.now row body → ⊥ }
 {
     let mut found = None;
     for body in bodies {
@@ -91,9 +91,10 @@ fn body_among(rows: &[Row], bodies: &[u32], row: u32) -> Option<u32>
     found
 }
 
-/// The body in which a row stands.
+/// The innermost body in which a row stands.
 pub(crate) fn body_round(alloc: Global, rows: &[Row], row: u32) -> Result<Option<u32>, OutOfMemory>
-    ensures { length rows.now < 2 ^ 32 → IfOk result (λ found. IfSome found (λ body. IsBodyRound rows.now row body)) }
+    ensures round { length rows.now < 2 ^ 32 → IfOk result (λ found. IfSome found (λ body. IsBodyRound rows.now row body)) }
+    ensures none { length rows.now < 2 ^ 32 → IfOk result (λ found. found ≡ None → (body : ℕ) → IsBodyRound rows.now row body → ⊥) }
 {
     let all = bodies(alloc, rows)?;
     Ok(body_among(rows, &all, row))

@@ -1,12 +1,12 @@
 // Definitions that only hand on what reaches a use: parameters of an added method, and the local to which its call is assigned.
-ghost use Rattle.std.specs.Prelude.{◌≡◌, ◌+◌, ◌<◌, ◌^◌, ℕ, true, None, Some, IfOk, IfSome, filter, length, slice_get};
+ghost use Rattle.std.specs.Prelude.{◌≡◌, ◌+◌, ◌<◌, ◌^◌, ℕ, true, Decides, None, Some, IfNone, IfOk, IfSome, filter, length, slice_get, slice_set};
 ghost use Rattle.jr_tree.specs.Rows as tree;
 ghost use Rattle.jr_flow_defs.specs.Acts as acts;
 ghost use Rattle.jr_flow_defs.specs.Kept as kept;
 ghost use Rattle.jr_kept.specs.Named.{origin_in};
 ghost use Rattle.jr_kept.specs.Gathered as tell;
 ghost use Rattle.jr_kept.specs.Handed as handed;
-ghost use Rattle.jr_kept.specs.Ordered.{Checks};
+ghost use Rattle.jr_kept.specs.Ordered.{AreNone, Checks, Tells};
 
 use crate::dropped::{is_inside, some_if};
 use crate::edges::{Edge, Firsts};
@@ -157,11 +157,13 @@ fn added_row(range: RowRange, origin: &[u32], point: Option<Point>) -> Option<u3
 
 // The row of the first added use inside a row.
 fn first_added(range: RowRange, origin: &[u32], points: &[Point]) -> Option<u32>
-    ensures { IfSome result (λ k. handed.IsAddedAt points.now range.first range.end (origin_in origin.now) k) }
+    ensures some { IfSome result (λ k. handed.IsAddedAt points.now range.first range.end (origin_in origin.now) k) }
+    ensures none { IfNone result ((k : ℕ) → handed.IsAddedAt points.now range.first range.end (origin_in origin.now) k → ⊥) }
 {
     for number in 0..points.len() {
-        if let Some(row) = added_row(range, origin, point_at(points, number)) {
-            return Some(row);
+        match added_row(range, origin, point_at(points, number)) {
+            Some(row) => return Some(row),
+            None => {}
         }
     }
     None
@@ -169,7 +171,7 @@ fn first_added(range: RowRange, origin: &[u32], points: &[Point]) -> Option<u32>
 
 // Both are one row.
 fn are_one(one: Option<u32>, other: Option<u32>) -> bool
-    ensures { result ≡ true → handed.AreOne one other }
+    ensures { result ≡ handed.are_one one other }
 {
     match one {
         Some(row) => match other {
@@ -182,7 +184,7 @@ fn are_one(one: Option<u32>, other: Option<u32>) -> bool
 
 // There is no row, or it is this one.
 fn is_none_or(found: Option<u32>, row: Option<u32>) -> bool
-    ensures { result ≡ true → (k : ℕ) → found ≡ Some k → row ≡ Some k }
+    ensures { result ≡ handed.is_none_or found row }
 {
     match found {
         Some(_) => are_one(found, row),
@@ -192,7 +194,8 @@ fn is_none_or(found: Option<u32>, row: Option<u32>) -> bool
 
 // No other added use stands inside a row.
 fn is_only(range: RowRange, origin: &[u32], points: &[Point], row: Option<u32>) -> bool
-    ensures { result ≡ true → handed.IsOnly points.now range.first range.end (origin_in origin.now) row (length points.now) }
+    ensures told { result ≡ true → handed.IsOnly points.now range.first range.end (origin_in origin.now) row (length points.now) }
+    ensures exact { handed.IsOnly points.now range.first range.end (origin_in origin.now) row (length points.now) → result ≡ true }
 {
     for number in 0..points.len() {
         if !is_none_or(added_row(range, origin, point_at(points, number)), row) {
@@ -204,7 +207,8 @@ fn is_only(range: RowRange, origin: &[u32], points: &[Point], row: Option<u32>) 
 
 impl Crossing {
     fn of(alloc: Global, flows: &Flows, call: u32, method: u32) -> Result<Crossing, OutOfMemory>
-        ensures { call + 1 < 2 ^ 32 → method + 1 < 2 ^ 32 → kept.statement_round flows.now.rows.now call call + 1 < 2 ^ 32
+        ensures none { method + 1 < 2 ^ 32 → IfOk result (λ made. IfNone made.returned ((k : ℕ) → handed.IsAddedAt flows.now.after.now.points.items method (tree.end flows.now.rows.now method) (origin_in flows.now.origin.now) k → ⊥)) }
+        ensures is { call + 1 < 2 ^ 32 → method + 1 < 2 ^ 32 → kept.statement_round flows.now.rows.now call call + 1 < 2 ^ 32
             → IfOk result (λ made. handed.IsCrossing made flows.now.rows.now flows.now.after.now.points.items call method (origin_in flows.now.origin.now)) }
     {
         let rows = flows.rows;
@@ -242,7 +246,8 @@ impl Handing {
 
     // No definition of these rows hands anything on so far.
     fn empty(alloc: Global, span: RowRange) -> Result<Handing, OutOfMemory>
-        ensures { IfOk result (λ handing. (d : ℕ) → tell.use_in handing d ≡ None) }
+        ensures none { IfOk result (λ handing. (d : ℕ) → tell.use_in handing d ≡ None) }
+        ensures spans { IfOk result (λ handing. handed.Spans handing span) }
     {
         let uses = vec![in alloc; NO_ROW; count_rows(span)]?;
         Ok(Handing {
@@ -251,30 +256,51 @@ impl Handing {
         })
     }
 
-    fn put(&mut self, definition: u32, from: u32)
-        ensures { handed.AddsOne self.old self.new (Some definition) (Some from) }
+    // Sets the use at a place, if there is that place.
+    fn set(&mut self, place: usize, from: u32)
+        ensures first { self.new.first ≡ self.old.first }
+        ensures uses { self.new.uses.items ≡ slice_set self.old.uses.items place from }
     {
-        if let Some(place) = definition.checked_sub(self.first) {
-            if let Some(item) = self.uses.get_mut(place as usize) {
-                *item = from;
-            }
+        if place < self.uses.len() {
+            self.uses[place] = from;
+        }
+    }
+
+    fn put(&mut self, definition: u32, from: u32)
+        ensures adds { handed.AddsOne self.old self.new (Some definition) (Some from) }
+        ensures puts { handed.PutsOne self.old self.new (Some definition) (Some from) }
+    {
+        if self.first <= definition {
+            self.set((definition - self.first) as usize, from);
+        }
+    }
+
+    // Puts the definition with the use, if there is one.
+    fn put_from(&mut self, definition: u32, from: Option<u32>)
+        ensures adds { handed.AddsOne self.old self.new (Some definition) from }
+        ensures puts { handed.PutsOne self.old self.new (Some definition) from }
+    {
+        match from {
+            Some(from) => self.put(definition, from),
+            None => {}
         }
     }
 
     // Puts the definition with the use, if there are both.
     fn put_one(&mut self, definition: Option<u32>, from: Option<u32>)
-        ensures { handed.AddsOne self.old self.new definition from }
+        ensures adds { handed.AddsOne self.old self.new definition from }
+        ensures puts { handed.PutsOne self.old self.new definition from }
     {
-        if let Some(definition) = definition {
-            if let Some(from) = from {
-                self.put(definition, from);
-            }
+        match definition {
+            Some(definition) => self.put_from(definition, from),
+            None => {}
         }
     }
 
     // Each definition hands on what reaches the use at its place.
     fn put_pairs(&mut self, definitions: &[u32], uses: &[u32])
-        ensures { handed.AddsPairs self.old self.new definitions.now uses.now }
+        ensures adds { handed.AddsPairs self.old self.new definitions.now uses.now }
+        ensures puts { handed.ArePairedOnce definitions.now uses.now → handed.PutsPairs self.old self.new definitions.now uses.now (length definitions.now) }
     {
         for place in 0..definitions.len() {
             let definition = row_in(definitions, place);
@@ -285,7 +311,8 @@ impl Handing {
 
     // Each definition inside a row hands on what reaches the use.
     fn put_assigned(&mut self, range: RowRange, points: &[Point], from: Option<u32>)
-        ensures { handed.AddsAssigned self.old self.new points.now range.first range.end from }
+        ensures adds { handed.AddsAssigned self.old self.new points.now range.first range.end from }
+        ensures puts { handed.PutsAssigned self.old self.new points.now range.first range.end from (length points.now) }
     {
         for number in 0..points.len() {
             self.put_one(defined_row(range, point_at(points, number)), from);
@@ -299,7 +326,8 @@ impl Handing {
         points: &[Point],
         crossing: &Crossing,
     ) -> Result<Handing, OutOfMemory>
-        ensures { IfOk result (λ handing. handed.OnlyCrosses handing crossing.now points.now) }
+        ensures only { IfOk result (λ handing. handed.OnlyCrosses handing crossing.now points.now) }
+        ensures every { (origin : kept.Origin) → handed.CrossesOnce span crossing.now points.now origin → IfOk result (λ handing. handed.HasCrossing handing crossing.now points.now origin) }
     {
         let mut handing = Handing::empty(alloc, span)?;
         handing.put_pairs(&crossing.parameters, &crossing.arguments);
@@ -319,7 +347,7 @@ impl Handing {
 
     // There is no definition, or it hands on from the use.
     fn is_from(&self, definition: Option<u32>, from: Option<u32>) -> bool
-        ensures { result ≡ true → (d : ℕ) → definition ≡ Some d → handed.IsFrom self.now from d }
+        ensures { result ≡ handed.is_from self.now definition from }
     {
         match definition {
             Some(definition) => are_one(from, self.use_of(definition)),
@@ -329,7 +357,7 @@ impl Handing {
 
     // There is no definition or no use, or it hands on from this.
     fn has_pair(&self, definition: Option<u32>, from: Option<u32>) -> bool
-        ensures { result ≡ true → (d k : ℕ) → definition ≡ Some d → from ≡ Some k → tell.use_in self.now d ≡ Some k }
+        ensures { result ≡ handed.has_pair self.now definition from }
     {
         match from {
             Some(_) => self.is_from(definition, from),
@@ -338,7 +366,8 @@ impl Handing {
     }
 
     fn has_pairs(&self, definitions: &[u32], uses: &[u32]) -> bool
-        ensures { result ≡ true → handed.HasPairs self.now definitions.now uses.now (length definitions.now) }
+        ensures told { result ≡ true → handed.HasPairs self.now definitions.now uses.now (length definitions.now) }
+        ensures exact { handed.HasPairs self.now definitions.now uses.now (length definitions.now) → result ≡ true }
     {
         for place in 0..definitions.len() {
             let definition = row_in(definitions, place);
@@ -351,7 +380,8 @@ impl Handing {
     }
 
     fn has_assigned(&self, range: RowRange, points: &[Point], from: Option<u32>) -> bool
-        ensures { result ≡ true → handed.HasAssigned self.now points.now range.first range.end from (length points.now) }
+        ensures told { result ≡ true → handed.HasAssigned self.now points.now range.first range.end from (length points.now) }
+        ensures exact { handed.HasAssigned self.now points.now range.first range.end from (length points.now) → result ≡ true }
     {
         for number in 0..points.len() {
             if !self.is_from(defined_row(range, point_at(points, number)), from) {
@@ -363,11 +393,15 @@ impl Handing {
 
     // All that crosses is handed on, and just one added use is returned.
     fn has_all(&self, crossing: &Crossing, points: &[Point], origin: &[u32]) -> bool
-        ensures { result ≡ true → handed.HasCrossing self.now crossing.now points.now (origin_in origin.now) }
+        ensures { Decides result (handed.HasCrossing self.now crossing.now points.now (origin_in origin.now)) }
     {
-        self.has_pairs(&crossing.parameters, &crossing.arguments)
-            && self.has_assigned(crossing.statement, points, crossing.returned)
-            && is_only(crossing.method, origin, points, crossing.returned)
+        if !self.has_pairs(&crossing.parameters, &crossing.arguments) {
+            return false;
+        }
+        if !self.has_assigned(crossing.statement, points, crossing.returned) {
+            return false;
+        }
+        is_only(crossing.method, origin, points, crossing.returned)
     }
 
     /// What is handed on between a body and the method that it calls there. Where one table cannot tell it, since more than one added use stands in the
@@ -379,7 +413,11 @@ impl Handing {
         method: u32,
         lost: &mut Firsts,
     ) -> Result<Handing, OutOfMemory>
-        ensures { call + 1 < 2 ^ 32 → method + 1 < 2 ^ 32 → kept.statement_round flows.now.rows.now call call + 1 < 2 ^ 32
+        ensures kept { call + 1 < 2 ^ 32 → method + 1 < 2 ^ 32 → kept.statement_round flows.now.rows.now call call + 1 < 2 ^ 32
+            → IfOk result (λ handing. AreNone lost.old → handed.IsHandingOf handing flows.now.rows.now flows.now.after.now.points.items call method (origin_in flows.now.origin.now) → AreNone lost.new) }
+        ensures once { call + 1 < 2 ^ 32 → method + 1 < 2 ^ 32 → kept.statement_round flows.now.rows.now call call + 1 < 2 ^ 32
+            → handed.HandsOnce flows.now.span flows.now.rows.now flows.now.after.now.points.items call method (origin_in flows.now.origin.now) → IfOk result (λ handing. AreNone lost.old → AreNone lost.new) }
+        ensures checks { call + 1 < 2 ^ 32 → method + 1 < 2 ^ 32 → kept.statement_round flows.now.rows.now call call + 1 < 2 ^ 32
             → IfOk result (λ handing. Checks lost.old lost.new (handed.IsHandingOf handing flows.now.rows.now flows.now.after.now.points.items call method (origin_in flows.now.origin.now))) }
     {
         let points = flows.after.points.as_slice();
@@ -396,7 +434,7 @@ impl Handing {
 
 // Puts an edge from the body to itself, unless all is handed on.
 fn put_unless(body: u32, has_all: bool, lost: &mut Firsts)
-    ensures { Checks lost.old lost.new (has_all ≡ true) }
+    ensures { Tells lost.old lost.new (has_all ≡ true) }
 {
     if !has_all {
         lost.put_old(Edge {

@@ -1,14 +1,18 @@
 // What a change loses.
-ghost use Rattle.std.specs.Prelude.{◌≡◌, ◌+◌, ◌<◌, ◌^◌, ℕ, None, IfOk, IfSome, length, true};
+ghost use Rattle.std.specs.Prelude.{◌≡◌, ◌⊎◌, ◌+◌, ◌<◌, ◌≤◌, ◌^◌, ℕ, None, Decides, IfErr, IfOk, IfSome, Some, length, true};
 ghost use Rattle.jr_tree.specs.Rows as tree;
 ghost use Rattle.jr_locks.specs.Origins.{origin_of, row_by};
 ghost use Rattle.jr_flow_defs.specs.Meaning.{Meaning};
 ghost use Rattle.jr_flow_defs.specs.Edges.{IsGraph, body_flow};
 ghost use Rattle.jr_flow_defs.specs.Kept.{IsDisturbed, joined_flow, statement_round};
+ghost use Rattle.jr_flow.specs.Numbered.{OnlyWhere};
 ghost use Rattle.jr_flow.specs.Reached.{steps_of, IsGraphOf};
 ghost use Rattle.jr_kept.specs.Ordered.{AreNone};
 ghost use Rattle.jr_kept.specs.Compared.{KeepsBodies, KeepsWholeBodies, KeepsJoined, KeepsJoinedUses, KeepsJoinedValues, KeepsJoinedReturns, IsOldBody, IsJoinedGraph, IsMethodGraph};
 ghost use Rattle.jr_kept.specs.Courses as tell;
+ghost use Rattle.jr_kept.specs.Handed.{HandsOnce};
+ghost use Rattle.jr_kept.specs.Named.{origin_in};
+ghost use Rattle.jr_kept.specs.Started.{BeginsFirst, BeginsFirstIn, LeavesStartIn};
 
 use crate::arriving::put_lost_definitions;
 use crate::carried::put_lost_values;
@@ -58,7 +62,8 @@ pub(crate) fn placed(old: &Project, edge: Edge, is_old: bool) -> LostEdge {
 
 /// The first edge of those found, if any was.
 pub(crate) fn first_of(old: &Project, lost: Firsts) -> Option<LostEdge>
-    ensures { result ≡ None → AreNone lost }
+    ensures none { result ≡ None → AreNone lost }
+    ensures some { AreNone lost → result ≡ None }
 {
     match lost.before {
         Some(edge) => Some(placed(old, edge, true)),
@@ -70,7 +75,10 @@ pub(crate) fn first_of(old: &Project, lost: Firsts) -> Option<LostEdge>
 }
 
 /// Nothing is lost.
-pub(crate) fn nothing() -> LostFlow {
+pub(crate) fn nothing() -> LostFlow
+    ensures control { result.control ≡ None }
+    ensures def_use { result.def_use ≡ None }
+{
     LostFlow {
         control: None,
         def_use: None,
@@ -79,7 +87,8 @@ pub(crate) fn nothing() -> LostFlow {
 
 /// What is lost where the body round an old row has no copy.
 pub(crate) fn lost_at(old: &Project, row: u32) -> LostFlow
-    ensures { result.control ≡ None → ⊥ }
+    ensures control { result.control ≡ None → ⊥ }
+    ensures def_use { result.def_use ≡ None }
 {
     let edge = Edge {
         first: row,
@@ -99,6 +108,11 @@ fn lost_in_inlined(
 ) -> Result<LostFlow, FlowFault>
     ensures control { (m w : Meaning) → IsGraphOf flows.now.names.rows.now m flows.now.before.now → IsGraphOf flows.now.rows.now w flows.now.after.now → IfOk result (λ lost. lost.control ≡ None → KeepsBodies flows.now m w) }
     ensures uses { (m w : Meaning) → IsGraphOf flows.now.names.rows.now m flows.now.before.now → IsGraphOf flows.now.rows.now w flows.now.after.now → IfOk result (λ lost. lost.control ≡ None → lost.def_use ≡ None → KeepsWholeBodies flows.now m w × (local + 1 < 2 ^ 32 → IsDisturbed flows.now.names.rows.now (body_flow flows.now.names.rows.now m flows.now.before.now.body) local → ⊥)) }
+    ensures only_control { (m w : Meaning) → tell.IsSeen old.now m → IsGraphOf flows.now.names.rows.now m flows.now.before.now → IsGraphOf flows.now.rows.now w flows.now.after.now → (BeginsFirst old.now.marks.rows.now m local → ⊥)
+        → IfOk result (λ lost. KeepsBodies flows.now m w → lost.control ≡ None) }
+    ensures only_uses { (m w : Meaning) → IsGraphOf flows.now.names.rows.now m flows.now.before.now → IsGraphOf flows.now.rows.now w flows.now.after.now → local + 1 < 2 ^ 32 → flows.now.before.now.body ≤ local
+        → IfOk result (λ lost. KeepsWholeBodies flows.now m w → (IsDisturbed flows.now.names.rows.now (body_flow flows.now.names.rows.now m flows.now.before.now.body) local → ⊥) → lost.def_use ≡ None) }
+    ensures large { (m : Meaning) → tell.IsSeen old.now m → IfErr result (OnlyWhere (tell.HasLarge old.now.marks.rows.now m)) }
 {
     let mut control = lost_control(alloc, flows)?;
     put_delayed(alloc, old, flows.before, local, &mut control)?;
@@ -114,21 +128,23 @@ fn lost_in_inlined(
 
 /// The graph of a body of a project.
 pub(crate) fn graph_of(alloc: Global, project: &Project, body: u32) -> Result<Graph, FlowFault>
-    ensures { (m : Meaning) → tell.IsSeen project.now m → body < length project.now.marks.rows.now → IfOk result (λ made. (made.body ≡ body) × IsGraphOf project.now.marks.rows.now m made) }
+    ensures graph { (m : Meaning) → tell.IsSeen project.now m → body < length project.now.marks.rows.now → IfOk result (λ made. (made.body ≡ body) × IsGraphOf project.now.marks.rows.now m made) }
+    ensures large { (m : Meaning) → tell.IsSeen project.now m → body < length project.now.marks.rows.now → IfErr result (OnlyWhere (tell.HasLarge project.now.marks.rows.now m)) }
 {
     graph(alloc, &project.view, body)
 }
 
 /// The row is one of these.
 pub(crate) fn is_row(rows: &[Row], row: u32) -> bool
-    ensures { result ≡ true → row < length rows.now }
+    ensures { Decides result (row < length rows.now) }
 {
     (row as usize) < rows.len()
 }
 
 /// What a table of copies or origins has for a row, if it is one of these rows.
 pub(crate) fn row_among(all: &[u32], rows: &[Row], at: u32) -> Option<u32>
-    ensures { IfSome result (λ row. (row_by (origin_of all.now at) ≡ Some row) × (row < length rows.now)) }
+    ensures some { IfSome result (λ row. (row_by (origin_of all.now at) ≡ Some row) × (row < length rows.now)) }
+    ensures none { (row : ℕ) → result ≡ None → row_by (origin_of all.now at) ≡ Some row → row < length rows.now → ⊥ }
 {
     match row_for(all, at) {
         Some(row) => { if is_row(rows, row) { Some(row) } else { None } }
@@ -148,7 +164,7 @@ fn dropped(copy: &[u32], statement: u32) -> Option<u32>
 
 // The statement is the declaration in which the local stands (JLS 14.4).
 fn is_declaration(rows: &[Row], local: u32, statement: u32) -> bool
-    ensures { result ≡ true → tree.parent rows.now local ≡ statement }
+    ensures { Decides result (tree.parent rows.now local ≡ statement) }
 {
     parent_at(rows, local) == statement
 }
@@ -160,7 +176,8 @@ fn declared_body(
     local: u32,
     statement: u32,
 ) -> Result<Option<u32>, OutOfMemory>
-    ensures { length rows.now < 2 ^ 32 → IfOk result (λ found. IfSome found (λ body. tell.IsBodyRound rows.now local body × (tree.parent rows.now local ≡ statement))) }
+    ensures round { length rows.now < 2 ^ 32 → IfOk result (λ found. IfSome found (λ body. tell.IsBodyRound rows.now local body × (tree.parent rows.now local ≡ statement))) }
+    ensures none { length rows.now < 2 ^ 32 → IfOk result (λ found. found ≡ None → tree.parent rows.now local ≡ statement → (body : ℕ) → tell.IsBodyRound rows.now local body → ⊥) }
 {
     if !is_declaration(rows, local, statement) {
         return Ok(None);
@@ -180,6 +197,11 @@ fn lost_by_inlining(
         → IfOk result (λ lost. lost.control ≡ None → tell.KeepsInlinedControl old.now.marks.rows.now locked.now.marks.rows.now m w locks.now.origin.items locks.now.copy.items local statement) }
     ensures uses { (m w : Meaning) → tell.IsSeen old.now m → tell.IsSeen locked.now w
         → IfOk result (λ lost. lost.control ≡ None → lost.def_use ≡ None → tell.KeepsInlinedFlow old.now.marks.rows.now locked.now.marks.rows.now m w locks.now.origin.items locks.now.copy.items local statement) }
+    ensures only_control { (m w : Meaning) → tell.IsSeen old.now m → tell.IsSeen locked.now w → (BeginsFirst old.now.marks.rows.now m local → ⊥)
+        → IfOk result (λ lost. tell.KeepsInlinedControl old.now.marks.rows.now locked.now.marks.rows.now m w locks.now.origin.items locks.now.copy.items local statement → lost.control ≡ None) }
+    ensures only_uses { (m w : Meaning) → tell.IsSeen old.now m → tell.IsSeen locked.now w
+        → IfOk result (λ lost. tell.KeepsInlinedFlow old.now.marks.rows.now locked.now.marks.rows.now m w locks.now.origin.items locks.now.copy.items local statement → lost.def_use ≡ None) }
+    ensures large { (m w : Meaning) → tell.IsSeen old.now m → tell.IsSeen locked.now w → IfErr result (OnlyWhere (tell.HasLarge old.now.marks.rows.now m ⊎ tell.HasLarge locked.now.marks.rows.now w)) }
 {
     let Some(body) = declared_body(alloc, old.marks.rows, local, statement)? else {
         return Ok(lost_at(old, local));
@@ -213,9 +235,17 @@ fn lost_in_extracted(
     call: u32,
     method: u32,
 ) -> Result<LostFlow, FlowFault>
-    ensures control { (m w : Meaning) → IsGraphOf flows.now.names.rows.now m flows.now.before.now → IsJoinedGraph flows.now w call method → IfOk result (λ lost. lost.control ≡ None → KeepsJoined flows.now m w call method) }
+    ensures control { (m w : Meaning) → IsGraphOf flows.now.names.rows.now m flows.now.before.now → IsJoinedGraph flows.now w call method → IsOldBody flows.now → method + 1 < 2 ^ 32
+        → IfOk result (λ lost. lost.control ≡ None → KeepsJoined flows.now m w call method × KeepsJoinedReturns flows.now m method) }
     ensures uses { (m w : Meaning) → IsGraphOf flows.now.names.rows.now m flows.now.before.now → IsJoinedGraph flows.now w call method → IsMethodGraph flows.now.rows.now w inner.now method → IsOldBody flows.now → call + 1 < 2 ^ 32 → method + 1 < 2 ^ 32 → statement_round flows.now.rows.now call call + 1 < 2 ^ 32
         → IfOk result (λ lost. lost.control ≡ None → lost.def_use ≡ None → KeepsJoined flows.now m w call method × KeepsJoinedUses flows.now m w call method × KeepsJoinedValues flows.now w call method × KeepsJoinedReturns flows.now m method) }
+    ensures only_control { (m w : Meaning) → IsGraphOf flows.now.names.rows.now m flows.now.before.now → IsJoinedGraph flows.now w call method → IsOldBody flows.now → method + 1 < 2 ^ 32
+        → IfOk result (λ lost. KeepsJoined flows.now m w call method → KeepsJoinedReturns flows.now m method → lost.control ≡ None) }
+    ensures only_uses { (m w : Meaning) → IsGraphOf flows.now.names.rows.now m flows.now.before.now → IsJoinedGraph flows.now w call method → IsMethodGraph flows.now.rows.now w inner.now method → (flows.now.after.now.body ≡ method → ⊥)
+        → call + 1 < 2 ^ 32 → method + 1 < 2 ^ 32 → statement_round flows.now.rows.now call call + 1 < 2 ^ 32
+        → HandsOnce flows.now.span flows.now.rows.now flows.now.after.now.points.items call method (origin_in flows.now.origin.now)
+        → IfOk result (λ lost. KeepsJoinedUses flows.now m w call method → KeepsJoinedValues flows.now w call method → lost.def_use ≡ None) }
+    ensures large { IfErr result (OnlyWhere ⊥) }
 {
     let mut control = lost_control(alloc, flows)?;
     put_held_returns(alloc, flows, method, &mut control)?;
@@ -230,7 +260,10 @@ fn lost_in_extracted(
 }
 
 // The rows of two ranges, and those between.
-fn both(one: RowRange, other: RowRange) -> RowRange {
+fn both(one: RowRange, other: RowRange) -> RowRange
+    ensures first { (result.first ≤ one.first) × (result.first ≤ other.first) }
+    ensures end { (one.end ≤ result.end) × (other.end ≤ result.end) }
+{
     RowRange {
         first: one.first.min(other.first),
         end: one.end.max(other.end),
@@ -245,7 +278,8 @@ fn joined_graph(
     call: u32,
     inner: &Graph,
 ) -> Result<Graph, FlowFault>
-    ensures { (w : Meaning) (method : ℕ) → tell.IsSeen locked.now w → body < length locked.now.marks.rows.now → IsMethodGraph locked.now.marks.rows.now w inner.now method → (body ≡ method → ⊥)
+    ensures large { (w : Meaning) → tell.IsSeen locked.now w → body < length locked.now.marks.rows.now → IfErr result (OnlyWhere (tell.HasLarge locked.now.marks.rows.now w)) }
+    ensures graph { (w : Meaning) (method : ℕ) → tell.IsSeen locked.now w → body < length locked.now.marks.rows.now → IsMethodGraph locked.now.marks.rows.now w inner.now method → (body ≡ method → ⊥)
         → IfOk result (λ made. (made.body ≡ body) × IsGraph (joined_flow locked.now.marks.rows.now w body call method) body made.points.items (steps_of made)) }
 {
     let outer = graph_of(alloc, locked, body)?;
@@ -257,6 +291,7 @@ fn joined_graph(
 fn is_apart(rows: &[Row], body: u32, method: u32) -> bool
     ensures row { result ≡ true → method < length rows.now }
     ensures apart { result ≡ true → body ≡ method → ⊥ }
+    ensures all { method < length rows.now → (body ≡ method → ⊥) → result ≡ true }
 {
     is_row(rows, method) && body != method
 }
@@ -273,6 +308,11 @@ fn lost_by_extracting(
         → IfOk result (λ lost. lost.control ≡ None → tell.KeepsExtractedControl old.now.marks.rows.now locked.now.marks.rows.now m w locks.now.origin.items call method) }
     ensures uses { (m w : Meaning) → tell.IsSeen old.now m → tell.IsSeen locked.now w
         → IfOk result (λ lost. lost.control ≡ None → lost.def_use ≡ None → tell.KeepsExtractedFlow old.now.marks.rows.now locked.now.marks.rows.now m w locks.now.origin.items call method) }
+    ensures only_control { (m w : Meaning) → tell.IsSeen old.now m → tell.IsSeen locked.now w
+        → IfOk result (λ lost. tell.KeepsExtractedControl old.now.marks.rows.now locked.now.marks.rows.now m w locks.now.origin.items call method → lost.control ≡ None) }
+    ensures only_uses { (m w : Meaning) → tell.IsSeen old.now m → tell.IsSeen locked.now w → tell.HandsByOne locked.now.marks.rows.now w locks.now.origin.items call method
+        → IfOk result (λ lost. tell.KeepsExtractedFlow old.now.marks.rows.now locked.now.marks.rows.now m w locks.now.origin.items call method → lost.def_use ≡ None) }
+    ensures large { (m w : Meaning) → tell.IsSeen old.now m → tell.IsSeen locked.now w → IfErr result (OnlyWhere (tell.HasLarge old.now.marks.rows.now m ⊎ tell.HasLarge locked.now.marks.rows.now w)) }
 {
     let rows = locked.marks.rows;
     let Some(copy) = body_round(alloc, rows, call)? else {
@@ -314,6 +354,11 @@ fn lost_by_course(
         → IfOk result (λ lost. lost.control ≡ None → tell.KeepsCourse course old.now.marks.rows.now locked.now.marks.rows.now m w locks.now.origin.items locks.now.copy.items) }
     ensures uses { (m w : Meaning) → tell.IsSeen old.now m → tell.IsSeen locked.now w
         → IfOk result (λ lost. lost.control ≡ None → lost.def_use ≡ None → tell.KeepsUsesOf course old.now.marks.rows.now locked.now.marks.rows.now m w locks.now.origin.items locks.now.copy.items) }
+    ensures only_control { (m w : Meaning) → tell.IsSeen old.now m → tell.IsSeen locked.now w → (BeginsFirstIn course old.now.marks.rows.now m → ⊥)
+        → IfOk result (λ lost. tell.KeepsCourse course old.now.marks.rows.now locked.now.marks.rows.now m w locks.now.origin.items locks.now.copy.items → lost.control ≡ None) }
+    ensures only_uses { (m w : Meaning) → tell.IsSeen old.now m → tell.IsSeen locked.now w → tell.HandsByOneIn course locked.now.marks.rows.now w locks.now.origin.items
+        → IfOk result (λ lost. tell.KeepsUsesOf course old.now.marks.rows.now locked.now.marks.rows.now m w locks.now.origin.items locks.now.copy.items → lost.def_use ≡ None) }
+    ensures large { (m w : Meaning) → tell.IsSeen old.now m → tell.IsSeen locked.now w → IfErr result (OnlyWhere (tell.HasLarge old.now.marks.rows.now m ⊎ tell.HasLarge locked.now.marks.rows.now w)) }
 {
     match course {
         Course::Same => Ok(nothing()),
@@ -331,6 +376,7 @@ fn lost_by_course(
 fn first_edge(one: Option<LostEdge>, other: Option<LostEdge>) -> Option<LostEdge>
     ensures one { result ≡ None → one ≡ None }
     ensures other { result ≡ None → other ≡ None }
+    ensures none { one ≡ None → other ≡ None → result ≡ None }
 {
     match one {
         Some(edge) => Some(edge),
@@ -342,6 +388,8 @@ fn first_edge(one: Option<LostEdge>, other: Option<LostEdge>) -> Option<LostEdge
 fn both_lost(one: LostFlow, other: LostFlow) -> LostFlow
     ensures control { result.control ≡ None → (one.control ≡ None) × (other.control ≡ None) }
     ensures def_use { result.def_use ≡ None → (one.def_use ≡ None) × (other.def_use ≡ None) }
+    ensures no_control { one.control ≡ None → other.control ≡ None → result.control ≡ None }
+    ensures no_use { one.def_use ≡ None → other.def_use ≡ None → result.def_use ≡ None }
 {
     LostFlow {
         control: first_edge(one.control, other.control),
@@ -373,6 +421,13 @@ pub fn lost_flow(
         → IfOk result (λ lost. lost.control ≡ None → tell.KeepsRaisedControl change.now.raised old.now.marks.rows.now locked.now.marks.rows.now m w locks.now.origin.items locks.now.copy.items) }
     ensures raised_uses { (m w : Meaning) → tell.IsSeen old.now m → tell.IsSeen locked.now w
         → IfOk result (λ lost. lost.control ≡ None → lost.def_use ≡ None → tell.KeepsRaisedFlow change.now.raised old.now.marks.rows.now locked.now.marks.rows.now m w locks.now.origin.items locks.now.copy.items) }
+    ensures only_control { (m w : Meaning) → tell.IsSeen old.now m → tell.IsSeen locked.now w → (LeavesStartIn change.now.raised old.now.marks.rows.now m → ⊥) → (BeginsFirstIn change.now.course old.now.marks.rows.now m → ⊥)
+        → IfOk result (λ lost. tell.KeepsCourse change.now.course old.now.marks.rows.now locked.now.marks.rows.now m w locks.now.origin.items locks.now.copy.items
+        → tell.KeepsRaisedControl change.now.raised old.now.marks.rows.now locked.now.marks.rows.now m w locks.now.origin.items locks.now.copy.items → lost.control ≡ None) }
+    ensures only_uses { (m w : Meaning) → tell.IsSeen old.now m → tell.IsSeen locked.now w → tell.HandsByOneIn change.now.course locked.now.marks.rows.now w locks.now.origin.items
+        → IfOk result (λ lost. tell.KeepsUsesOf change.now.course old.now.marks.rows.now locked.now.marks.rows.now m w locks.now.origin.items locks.now.copy.items
+        → tell.KeepsRaisedFlow change.now.raised old.now.marks.rows.now locked.now.marks.rows.now m w locks.now.origin.items locks.now.copy.items → lost.def_use ≡ None) }
+    ensures large { (m w : Meaning) → tell.IsSeen old.now m → tell.IsSeen locked.now w → IfErr result (OnlyWhere (tell.HasLarge old.now.marks.rows.now m ⊎ tell.HasLarge locked.now.marks.rows.now w)) }
 {
     let raised = lost_by_raising(alloc, old, locked, locks, change.raised)?;
     let ordered = lost_by_course(alloc, old, locked, locks, change.course)?;

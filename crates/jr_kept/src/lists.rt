@@ -108,7 +108,8 @@ impl Lists {
 
     /// The second numbers of all pairs, each under its first one.
     pub(crate) fn of_all(alloc: Global, pairs: &[(u32, u32)]) -> Result<Lists, OutOfMemory>
-        ensures { IfOk result (λ lists. (k j : ℕ) → Contains pairs.now (k, j) → Contains (under_in lists k) j) }
+        ensures every { IfOk result (λ lists. (k j : ℕ) → Contains pairs.now (k, j) → Contains (under_in lists k) j) }
+        ensures only { IfOk result (λ lists. (k j : ℕ) → Contains (under_in lists k) j → Contains pairs.now (k, j)) }
     {
         let first = least_first(pairs);
         let bound = first_bound(pairs);

@@ -76,10 +76,11 @@ fn name_of_node(node: u32, body: u32, count: u32) -> Result<u32, OutOfMemory>
     Ok(name)
 }
 
-fn is_same(dropped: Option<u32>, row: u32) -> bool
-    ensures { result ≡ option_eq nat_eq dropped (Some row) }
+/// The row is this one.
+pub(crate) fn is_same(found: Option<u32>, row: u32) -> bool
+    ensures { result ≡ option_eq nat_eq found (Some row) }
 {
-    match dropped {
+    match found {
         Some(at) => at == row,
         None => false,
     }

@@ -1,8 +1,10 @@
 // Rows that have the parts to which their acts go, and blocks of `finally` round them.
-ghost use Rattle.std.specs.Prelude.{◌≡◌, ◌+◌, ◌^◌, ◌<◌, length, true};
+ghost use Rattle.std.specs.Prelude.{◌≡◌, ◌+◌, ◌^◌, ◌<◌, ◌||◌, Decides, length, nat_lt, not, true};
+ghost use Rattle.jr_tree.specs.Rows as tree;
 ghost use Rattle.jr_flow_defs.specs.Acts as acts;
 ghost use Rattle.jr_kept.specs.Waiting as tell;
 
+use crate::dropped::is_either;
 use crate::flows::rows_of;
 use jr_places::{end_at, parent_at};
 use jr_tree::{Label, Row};
@@ -41,21 +43,41 @@ fn is_finally(rows: &[Row], at: u32) -> bool
     }
 }
 
+// The row stands right below the one above it.
+fn is_below(rows: &[Row], at: u32) -> bool
+    ensures { Decides result (tell.IsBelow rows.now (tree.parent rows.now at) at) }
+{
+    let over = parent_at(rows, at);
+    if over >= at {
+        return false;
+    }
+    at < end_at(rows, over)
+}
+
+// The way up from a row came to that of the body, and through no block of `finally`, or it came past the body.
+fn is_free_at(body: u32, at: u32, is_held: bool) -> bool
+    ensures { result ≡ (nat_lt at body || not is_held) }
+{
+    at < body || !is_held
+}
+
 /// Nothing is pending at a row of the body, since it stands in no block of `finally`.
 pub(crate) fn is_free(rows: &[Row], body: u32, row: u32) -> bool
-    ensures { result ≡ true → tell.IsFree rows.now body row }
+    ensures { Decides result (tell.IsFree rows.now body row) }
 {
     let mut at = row;
+    let mut is_held = false;
     for _turn in 0..row {
         if at <= body {
+            return is_free_at(body, at, is_held);
+        }
+        if !is_below(rows, at) {
             return true;
         }
-        if is_finally(rows, at) {
-            return false;
-        }
+        is_held = is_either(is_held, is_finally(rows, at));
         at = parent_at(rows, at);
     }
-    at <= body
+    is_free_at(body, at, is_held)
 }
 
 // ---- parts

@@ -1,9 +1,11 @@
 // What a pull up loses.
-ghost use Rattle.std.specs.Prelude.{◌≡◌, None, IfOk};
+ghost use Rattle.std.specs.Prelude.{◌≡◌, ◌⊎◌, None, IfErr, IfOk};
 ghost use Rattle.jr_flow_defs.specs.Meaning.{Meaning};
+ghost use Rattle.jr_flow.specs.Numbered.{OnlyWhere};
 ghost use Rattle.jr_flow.specs.Reached.{IsGraphOf};
 ghost use Rattle.jr_kept.specs.Compared.{KeepsBodies, KeepsWholeBodies};
 ghost use Rattle.jr_kept.specs.Courses as tell;
+ghost use Rattle.jr_kept.specs.Started.{LeavesStart, LeavesStartIn};
 
 use crate::arriving::put_lost_definitions;
 use crate::control::lost_control;
@@ -21,6 +23,9 @@ use std::alloc::Global;
 fn lost_in_moved(alloc: Global, old: &Project, flows: &Flows) -> Result<LostFlow, FlowFault>
     ensures control { (m w : Meaning) → IsGraphOf flows.now.names.rows.now m flows.now.before.now → IsGraphOf flows.now.rows.now w flows.now.after.now → IfOk result (λ lost. lost.control ≡ None → KeepsBodies flows.now m w) }
     ensures uses { (m w : Meaning) → IsGraphOf flows.now.names.rows.now m flows.now.before.now → IsGraphOf flows.now.rows.now w flows.now.after.now → IfOk result (λ lost. lost.control ≡ None → lost.def_use ≡ None → KeepsWholeBodies flows.now m w) }
+    ensures only_control { (m w : Meaning) → IsGraphOf flows.now.names.rows.now m flows.now.before.now → IsGraphOf flows.now.rows.now w flows.now.after.now → IfOk result (λ lost. KeepsBodies flows.now m w → lost.control ≡ None) }
+    ensures only_uses { (m w : Meaning) → IsGraphOf flows.now.names.rows.now m flows.now.before.now → IsGraphOf flows.now.rows.now w flows.now.after.now → IfOk result (λ lost. KeepsWholeBodies flows.now m w → lost.def_use ≡ None) }
+    ensures large { IfErr result (OnlyWhere ⊥) }
 {
     let control = lost_control(alloc, flows)?;
     let mut lost = Firsts::none();
@@ -44,6 +49,11 @@ fn lost_by_moving(
         → IfOk result (λ lost. lost.control ≡ None → tell.KeepsMovedControl old.now.marks.rows.now locked.now.marks.rows.now m w locks.now.origin.items locks.now.copy.items method) }
     ensures uses { (m w : Meaning) → tell.IsSeen old.now m → tell.IsSeen locked.now w
         → IfOk result (λ lost. lost.control ≡ None → lost.def_use ≡ None → tell.KeepsMovedFlow old.now.marks.rows.now locked.now.marks.rows.now m w locks.now.origin.items locks.now.copy.items method) }
+    ensures only_control { (m w : Meaning) → tell.IsSeen old.now m → tell.IsSeen locked.now w
+        → IfOk result (λ lost. tell.KeepsMovedControl old.now.marks.rows.now locked.now.marks.rows.now m w locks.now.origin.items locks.now.copy.items method → lost.control ≡ None) }
+    ensures only_uses { (m w : Meaning) → tell.IsSeen old.now m → tell.IsSeen locked.now w
+        → IfOk result (λ lost. tell.KeepsMovedFlow old.now.marks.rows.now locked.now.marks.rows.now m w locks.now.origin.items locks.now.copy.items method → lost.def_use ≡ None) }
+    ensures large { (m w : Meaning) → tell.IsSeen old.now m → tell.IsSeen locked.now w → IfErr result (OnlyWhere (tell.HasLarge old.now.marks.rows.now m ⊎ tell.HasLarge locked.now.marks.rows.now w)) }
 {
     if !is_row(old.marks.rows, method) {
         return Ok(lost_at(old, method));
@@ -81,6 +91,11 @@ fn lost_by_pull_up(
         → IfOk result (λ lost. lost.control ≡ None → tell.KeepsMovedControl old.now.marks.rows.now locked.now.marks.rows.now m w locks.now.origin.items locks.now.copy.items raised.method.first) }
     ensures uses { (m w : Meaning) → tell.IsSeen old.now m → tell.IsSeen locked.now w
         → IfOk result (λ lost. lost.control ≡ None → lost.def_use ≡ None → tell.KeepsMovedFlow old.now.marks.rows.now locked.now.marks.rows.now m w locks.now.origin.items locks.now.copy.items raised.method.first) }
+    ensures only_control { (m w : Meaning) → tell.IsSeen old.now m → tell.IsSeen locked.now w
+        → IfOk result (λ lost. tell.KeepsMovedControl old.now.marks.rows.now locked.now.marks.rows.now m w locks.now.origin.items locks.now.copy.items raised.method.first → (LeavesStart old.now.marks.rows.now m raised → ⊥) → lost.control ≡ None) }
+    ensures only_uses { (m w : Meaning) → tell.IsSeen old.now m → tell.IsSeen locked.now w
+        → IfOk result (λ lost. tell.KeepsMovedFlow old.now.marks.rows.now locked.now.marks.rows.now m w locks.now.origin.items locks.now.copy.items raised.method.first → lost.def_use ≡ None) }
+    ensures large { (m w : Meaning) → tell.IsSeen old.now m → tell.IsSeen locked.now w → IfErr result (OnlyWhere (tell.HasLarge old.now.marks.rows.now m ⊎ tell.HasLarge locked.now.marks.rows.now w)) }
 {
     match lost_initialization(alloc, old, raised)? {
         Some(edge) => Ok(LostFlow {
@@ -103,6 +118,11 @@ pub(crate) fn lost_by_raising(
         → IfOk result (λ lost. lost.control ≡ None → tell.KeepsRaisedControl raised old.now.marks.rows.now locked.now.marks.rows.now m w locks.now.origin.items locks.now.copy.items) }
     ensures uses { (m w : Meaning) → tell.IsSeen old.now m → tell.IsSeen locked.now w
         → IfOk result (λ lost. lost.control ≡ None → lost.def_use ≡ None → tell.KeepsRaisedFlow raised old.now.marks.rows.now locked.now.marks.rows.now m w locks.now.origin.items locks.now.copy.items) }
+    ensures only_control { (m w : Meaning) → tell.IsSeen old.now m → tell.IsSeen locked.now w
+        → IfOk result (λ lost. tell.KeepsRaisedControl raised old.now.marks.rows.now locked.now.marks.rows.now m w locks.now.origin.items locks.now.copy.items → (LeavesStartIn raised old.now.marks.rows.now m → ⊥) → lost.control ≡ None) }
+    ensures only_uses { (m w : Meaning) → tell.IsSeen old.now m → tell.IsSeen locked.now w
+        → IfOk result (λ lost. tell.KeepsRaisedFlow raised old.now.marks.rows.now locked.now.marks.rows.now m w locks.now.origin.items locks.now.copy.items → lost.def_use ≡ None) }
+    ensures large { (m w : Meaning) → tell.IsSeen old.now m → tell.IsSeen locked.now w → IfErr result (OnlyWhere (tell.HasLarge old.now.marks.rows.now m ⊎ tell.HasLarge locked.now.marks.rows.now w)) }
 {
     match raised {
         Some(raised) => lost_by_pull_up(alloc, old, locked, locks, raised),

@@ -60,7 +60,8 @@ struct Spreading {
 
 impl Spreading {
     fn new(alloc: Global, count: usize) -> Result<Spreading, OutOfMemory>
-        ensures { IfOk result (λ spreading. IsEmptied spreading.met count) }
+        ensures met { IfOk result (λ spreading. IsEmptied spreading.met count) }
+        ensures waiting { IfOk result (λ spreading. spreading.waiting.items ≡ []) }
     {
         let met = Stamps::new(alloc, count)?;
         Ok(Spreading {
@@ -73,6 +74,7 @@ impl Spreading {
     fn begin(&mut self, ways: &Lists, from: &[u32]) -> Result<(), OutOfMemory>
         ensures met { OnOk result (self.new.met ≡ self.old.met) }
         ensures waiting { OnOk result ((i k : ℕ) → Contains from.now i → Contains (under_in ways.now i) k → Contains self.new.waiting.items k) }
+        ensures only { OnOk result (tell.AreNext (under_in ways.now) from.now self.old.waiting.items self.new.waiting.items) }
     {
         for point in from {
             self.waiting.extend_from_slice(ways.under(*point))?;
@@ -116,7 +118,8 @@ pub(crate) fn spread(
     barred: &Stamps,
     count: usize,
 ) -> Result<Stamps, OutOfMemory>
-    ensures { IfOk result (λ met. tell.AreSpread (under_in ways.now) from.now barred.now count met) }
+    ensures every { IfOk result (λ met. tell.AreSpread (under_in ways.now) from.now barred.now count met) }
+    ensures only { IfOk result (λ met. tell.OnlySpread (under_in ways.now) from.now barred.now count met) }
 {
     let mut spreading = Spreading::new(alloc, count)?;
     spreading.begin(ways, from)?;

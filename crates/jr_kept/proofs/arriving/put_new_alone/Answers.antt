@@ -1,20 +1,20 @@
-use Rattle.std.proofs.Common.{◌≡◌, ℕ, true, sym, ◌∙◌, subst, arith, take}
+use Rattle.std.proofs.Common.{◌≡◌, ℕ, true, sym, subst, arith, take}
 use Rattle.std.specs.List.{Contains}
 use Rattle.std.proofs.lemmas.Grind.{take_at_read}
 use Rattle.std.proofs.lemmas.List.{take_all}
 use Rattle.jr_places.specs.Stamps.{is_stamped}
-use Rattle.jr_kept.specs.Ordered.{Checks}
-use Rattle.jr_kept.proofs.Uses.{checks_none, checks_more}
+use Rattle.jr_kept.specs.Ordered.{Tells}
+use Rattle.jr_kept.proofs.Telling.{tells_none, tells_more}
 use Rattle.jr_kept.proofs.arriving.put_new_alone.Goals as goal
 
 pub loop-definition-init : goal.loop-definition-init
-loop-definition-init c = checks_none c.args.lost.now (λ n. is_stamped c.args.old.now n ≡ true)
+loop-definition-init c = tells_none c.args.lost.now (λ n. is_stamped c.args.old.now n ≡ true)
 
 pub loop-definition-preserved : goal.loop-definition-preserved
 loop-definition-preserved c = let all = c.args.definitions.now in let i = c.loop-definition.definition-index in let lt = c.loop-definition-test.true in
-    subst (λ xs. Checks c.args.lost.now c.put_new_unless.new.lost ((n : ℕ) → Contains xs n → is_stamped c.args.old.now n ≡ true)) (sym ((take_at_read all i _ (omega (arith, lt))).1))
-    (checks_more c.args.lost.now c.loop-definition.lost c.put_new_unless.new.lost (λ n. is_stamped c.args.old.now n ≡ true) (take i all) _ c.loop-definition.invariant (λ h. let one = c.put_new_unless.ensures h in (one.0, sym c.has.ensures ∙ one.1)))
+    subst (λ xs. Tells c.args.lost.now c.put_new_unless.new.lost ((n : ℕ) → Contains xs n → is_stamped c.args.old.now n ≡ true)) (sym ((take_at_read all i _ (omega (arith, lt))).1))
+    (tells_more c.args.lost.now c.loop-definition.lost c.put_new_unless.new.lost (λ n. is_stamped c.args.old.now n) (take i all) _ c.has.result c.loop-definition.invariant c.has.ensures c.put_new_unless.ensures)
 
 pub returns : goal.returns
 returns c = let past = c.loop-definition-test.false in
-    subst (λ xs. Checks c.args.lost.now c.loop-definition.lost ((n : ℕ) → Contains xs n → is_stamped c.args.old.now n ≡ true)) (take_all c.loop-definition.definition-index c.args.definitions.now (omega (arith, past))) c.loop-definition.invariant
+    subst (λ xs. Tells c.args.lost.now c.loop-definition.lost ((n : ℕ) → Contains xs n → is_stamped c.args.old.now n ≡ true)) (take_all c.loop-definition.definition-index c.args.definitions.now (omega (arith, past))) c.loop-definition.invariant

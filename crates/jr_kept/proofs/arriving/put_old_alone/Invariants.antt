@@ -1,8 +1,8 @@
 use Rattle.std.proofs.Common.{◌≡◌, ℕ, true, take}
 use Rattle.std.specs.List.{Contains}
 use Rattle.jr_kept.specs.Gathered.{is_original}
-use Rattle.jr_kept.specs.Ordered.{Checks}
+use Rattle.jr_kept.specs.Ordered.{Tells}
 use Rattle.jr_kept.proofs.arriving.put_old_alone.Given as goal
 
 abbrev pub invariant-loop-definition : goal.invariant-loop-definition
-invariant-loop-definition l = Checks l.fn.lost l.lost ((n : ℕ) → Contains (take l.definition-index l.definitions) n → is_original l.originals n ≡ true)
+invariant-loop-definition l = Tells l.fn.lost l.lost ((n : ℕ) → Contains (take l.definition-index l.definitions) n → is_original l.originals n ≡ true)

@@ -1,8 +1,10 @@
-use Rattle.std.proofs.Common.{◌∙◌, subst, length}
-use Rattle.std.specs.List.{Contains}
-use Rattle.jr_flow.proofs.Declaring.{body_below}
+use Rattle.std.proofs.Common.{sym, ◌∙◌, subst}
+use Rattle.jr_kept.specs.Courses.{AreBodies}
+use Rattle.jr_kept.proofs.Rounding.{bodies_are}
 use Rattle.jr_kept.proofs.flows.body_round.Goals as goal
 
-pub returns : goal.returns
-returns c = λ few. let rows = c.args.rows.now in
-    c.body_among.ensures few (λ k among. let one = body_below rows (length rows) k (subst (λ xs. Contains xs k) (c.deref.ensures.value ∙ c.in_ok-all.ensures) among) in record { few = one.0; has = one.1 })
+pub returns-clause-round : goal.returns-clause-round
+returns-clause-round c = λ few. c.body_among.ensures.round few (subst (AreBodies c.args.rows.now) (sym (c.deref.ensures.value ∙ c.in_ok-all.ensures)) (bodies_are c.args.rows.now))
+
+pub returns-clause-none : goal.returns-clause-none
+returns-clause-none c = λ few. c.body_among.ensures.none few (subst (AreBodies c.args.rows.now) (sym (c.deref.ensures.value ∙ c.in_ok-all.ensures)) (bodies_are c.args.rows.now))
