@@ -28,7 +28,7 @@ use Rattle.jr_front.specs.Viewed.{IsViewOf}
 use Rattle.jr_front.specs.declared.fault.FrontFault.{FrontFault}
 use Rattle.jr_front.specs.declared.workspace.Workspace.{Workspace}
 use Rattle.jr_engine.specs.Barring.{Bars}
-use Rattle.jr_engine.specs.Comparing.{Comparison, LosesControl, LosesUses}
+use Rattle.jr_engine.specs.Comparing.{ComparesLarge, Comparison, LosesControl, LosesUses}
 use Rattle.jr_engine.specs.Planning.{IsAccepted, PlannedAs, RefusedAs}
 use Rattle.jr_engine.specs.Refusing.{HasCause, HasLargeBody, IsBarred, IsCausedBy, IsHinderedIn, IsNumber, IsLargeIn, IsOfFiles, IsRefusedFrom, IsShownAt, IsToldAs, IsToldNumber, IsTooLarge, fault_of}
 use Rattle.jr_engine.specs.Steps.{IsProjectIn, Opened, IsOpened, IsRead, IsHeld, IsMeaningOf, KeepsFlow, IsAskedOf, IsRequested, LeftBy, IsStep, stays, leaves, AreSteps, none, more, IsFollowed, opened, opened_by}
@@ -70,10 +70,13 @@ use Rattle.jr_tree.proofs.Trees.{each_program_is_tree}
 use Rattle.jr_supers.specs.Supers.{AreSupersOf}
 use Rattle.jr_supers.specs.Tabled.{IsSized}
 use Rattle.jr_flow_defs.specs.Meaning.{Meaning}
+use Rattle.jr_flow.specs.Numbered.{OnlyWhere}
 use Rattle.jr_flow.specs.Sizes.{HasTooLarge}
+use Rattle.jr_flow.specs.declared.point.FlowFault.{FlowFault}
+use Rattle.jr_flow.specs.declared.point.FlowFault.TheVariants as faults
 use Rattle.jr_flow.specs.Views as flow
 use Rattle.jr_inline.specs.Retyping.{AreCompared, IsRetyped, IsRetypedIf, IsTypedAs, Typed}
-use Rattle.jr_kept.specs.Courses.{HandsByOneIn, IsSeen, KeepsCourse, KeepsRaisedControl, KeepsRaisedFlow, KeepsUsesOf}
+use Rattle.jr_kept.specs.Courses.{HandsByOneIn, HasLarge, IsSeen, KeepsCourse, KeepsRaisedControl, KeepsRaisedFlow, KeepsUsesOf}
 use Rattle.jr_kept.specs.Started.{BeginsFirstIn, LeavesStartIn}
 use Rattle.jr_kept.specs.declared.kept.LostEdge.{LostEdge}
 use Rattle.jr_meaning.specs.Kept.{KeepsBodies}
@@ -472,6 +475,16 @@ module _ (asked : Asked) (locked : Locked) (old new : Project) (bound : IsBoundI
       let P : Rows → Rows → List ℕ → List ℕ → Type 0 = λ p q origin copy. (LeavesStartIn asked.change.now.raised p m → ⊥) → (BeginsFirstIn asked.change.now.course p m → ⊥)
       → KeepsCourse asked.change.now.course p q m w origin copy → KeepsRaisedControl asked.change.now.raised p q m w origin copy → ⊥ in
       record { to = compared asked locked bound program sound.well is by; lost = of_programs asked locked old new P by old_rows new_rows (λ start first course raised. none-some edge (sym (only m w old_seen new_seen start first course raised) ∙ some)) }
+
+  -- where there are too many points to compare, a body of one of the two has them
+  pub compared_large : (fault : FlowFault) → ((m w : Meaning) → IsSeen old m → IsSeen new w → OnlyWhere (HasLarge old.marks.rows.now m ⊎ HasLarge new.marks.rows.now w) fault)
+      → OnlyWhere (ComparesLarge (rows_in asked.old.now) (table_in asked.old.now) asked.change.now) fault
+  unfolding compared
+  compared_large faults.TooManyPoints large =
+      let m = meaning_in asked.old.now in
+      let w = meaning_in locked.program in
+      record { to = compared asked locked bound program sound.well is by; large = of_programs asked locked old new (λ p q origin copy. HasLarge p m ⊎ HasLarge q w) by old_rows new_rows (large m w old_seen new_seen) }
+  compared_large faults.OutOfMemory large = tt
 
   -- where an edge from a definition to a use is told, not all uses keep theirs
   pub uses_lost : (uses : Option LostEdge) (edge : LostEdge)

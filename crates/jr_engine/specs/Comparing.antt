@@ -1,5 +1,5 @@
 -- A changed program under its locks beside the old one: what it loses of flow, and which of its expressions have another type.
-use Rattle.std.specs.Prelude.{◌≡◌, ℕ, length}
+use Rattle.std.specs.Prelude.{◌≡◌, ◌⊎◌, ℕ, length}
 use Rattle.jr_tree.specs.Rows.{Rows}
 use Rattle.jr_defs.specs.Referents.{Table}
 use Rattle.jr_rule.specs.declared.Rule.{Rule}
@@ -8,7 +8,7 @@ use Rattle.jr_change.specs.declared.change.Change.{Change}
 use Rattle.jr_locks.specs.Changed.{IsChanged, copies_by, origins_by}
 use Rattle.jr_flow_defs.specs.Meaning.{Meaning}
 use Rattle.jr_inline.specs.Retyping.{IsRetyped}
-use Rattle.jr_kept.specs.Courses.{HandsByOneIn, KeepsCourse, KeepsRaisedControl, KeepsRaisedFlow, KeepsUsesOf}
+use Rattle.jr_kept.specs.Courses.{HandsByOneIn, HasLarge, KeepsCourse, KeepsRaisedControl, KeepsRaisedFlow, KeepsUsesOf}
 use Rattle.jr_kept.specs.Started.{BeginsFirstIn, LeavesStartIn}
 use Rattle.jr_engine.specs.Steps.{IsMeaningOf}
 
@@ -37,6 +37,11 @@ pub record LosesUses (p : Rows) (t : Table) (change : Change) : Type 0 where
   pub lost : HandsByOneIn change.course to.rows to.after (origins_by change)
       → KeepsUsesOf change.course p to.rows to.before to.after (origins_by change) (copies_by (origins_by change) (length p))
       → KeepsRaisedFlow change.raised p to.rows to.before to.after (origins_by change) (copies_by (origins_by change) (length p)) → ⊥
+
+-- a body of the old program, or one of a changed program, has more points of flow than there may be
+pub record ComparesLarge (p : Rows) (t : Table) (change : Change) : Type 0 where
+  pub to : Comparison p t change
+  pub large : HasLarge p to.before ⊎ HasLarge to.rows to.after
 
 -- in a changed program an expression has another type than the one from which it comes, or only one of the two is a constant string (`IsRetyped`)
 pub record Retypes (p : Rows) (t : Table) (change : Change) : Type 0 where

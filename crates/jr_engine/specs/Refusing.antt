@@ -19,8 +19,6 @@ use Rattle.jr_locks.specs.Origins.{origin_of, row_by}
 use Rattle.jr_marks.specs.Places.{place_of_name}
 use Rattle.jr_marks.specs.declared.marks.Marks.{Marks}
 use Rattle.jr_change.specs.declared.change.Change.{Change}
-use Rattle.jr_change.specs.declared.change.Course.{Course}
-use Rattle.jr_change.specs.declared.change.Course.TheVariants as course
 use Rattle.jr_change.specs.declared.reason.ChangeFault.{ChangeFault}
 use Rattle.jr_change.specs.declared.reason.ChangeFault.TheVariants as change
 use Rattle.jr_flow_defs.specs.Meaning.{Meaning}
@@ -28,7 +26,7 @@ use Rattle.jr_flow.specs.Sizes.{HasTooLarge}
 use Rattle.jr_front.specs.Bound.{rows_in, table_in}
 use Rattle.jr_front.specs.declared.workspace.Workspace.{Workspace}
 use Rattle.jr_engine.specs.Barring.{HasDeepText, Bars}
-use Rattle.jr_engine.specs.Comparing.{BreaksTypes, LosesControl, LosesUses}
+use Rattle.jr_engine.specs.Comparing.{BreaksTypes, ComparesLarge, LosesControl, LosesUses}
 use Rattle.jr_engine.specs.Steps.{Opened, IsMeaningOf, IsRequested, AreFirst, AreSteps, IsRead, is_constant, opened, types}
 use Rattle.jr_engine.specs.Texts.{AreTexts, changed_files}
 use Rattle.jr_engine.specs.declared.asked.Asked.{Asked}
@@ -101,19 +99,13 @@ pub record LeavesLargeBody (p : Rows) (t : Table) (change : Change) : Type 0 whe
   pub changed : IsChanged p t change rows locks
   pub large : HasLargeBody rows locks
 
--- the flow of a body is compared with that of another: of its copy, or of one with a call and the method that is called
-abbrev pub has_compared_flow : Course → Bool
-has_compared_flow (course.Inlined local statement) = true
-has_compared_flow (course.Extracted call method) = true
-has_compared_flow other = false
-
--- A size passes its limit: of the files that were to be left, the levels of a text of the change, before its references are spelled, or the points of flow of a body of the changed program. After an inlining
--- and an extraction flow that is compared may have too many points too, of which no more is said.
+-- A size passes its limit: of the files that were to be left, the levels of a text of the change, before its references are spelled, or the points of flow of a body of the changed program, or of
+-- one that is compared (`ComparesLarge`).
 pub data IsTooLarge (units : List UnitAt) (p : Rows) (t : Table) (change : Change) : Size → Type 0 where
   by_files : {what : Size} → IsBarred units p t change (step.TooLarge what) → IsTooLarge units p t change what
   by_change : HasDeepText (changed_files units change.units.items) → IsTooLarge units p t change size.Nesting
   by_flow : LeavesLargeBody p t change → IsTooLarge units p t change size.Flow
-  by_compared_flow : has_compared_flow change.course ≡ true → IsTooLarge units p t change size.Flow
+  by_compared_flow : ComparesLarge p t change → IsTooLarge units p t change size.Flow
 
 -- ---- the causes
 

@@ -4,9 +4,9 @@ ghost use Rattle.std.specs.Prelude.{◌≡◌, ◌+◌, ◌<◌, ◌^◌, true, 
 ghost use Rattle.jr_marks.specs.Places.{IsOrdered, place_of_name};
 ghost use Rattle.jr_front.specs.Bound.{rows_in, table_in};
 ghost use Rattle.jr_kept.specs.declared.kept.LostEdge.{LostEdge};
-ghost use Rattle.jr_engine.specs.Refusing as refusing;
 ghost use Rattle.jr_engine.specs.Refusing.{IsHinderedIn, IsLargeIn};
-ghost use Rattle.jr_engine.specs.Comparing.{LosesUses};
+ghost use Rattle.jr_flow.specs.Numbered.{OnlyWhere};
+ghost use Rattle.jr_engine.specs.Comparing.{ComparesLarge, LosesUses};
 ghost use Rattle.jr_engine.specs.Written.{HasTables, IsReady, KeepsCallsIn, KeepsFlowIn};
 ghost use Rattle.jr_engine.specs.declared.fault.LostKind.TheVariants as kind;
 ghost use Rattle.jr_engine.specs.declared.fault.StepFault.TheVariants as step;
@@ -101,28 +101,14 @@ fn keeps_calls(alloc: Global, asked: Asked, locked: &Locked) -> Result<(), StepF
     }
 }
 
-// Flow is compared after an inlining and an extraction.
-fn has_compared_flow(course: &Course) -> bool
-    ensures { result ≡ refusing.has_compared_flow course.now }
-{
-    match course {
-        Course::Inlined { .. } => true,
-        Course::Extracted { .. } => true,
-        _ => false,
-    }
-}
-
-// Flow cannot be compared. Where none is compared, memory was wanting.
+// Flow cannot be compared.
 fn not_compared(asked: Asked, fault: FlowFault) -> StepFault
+    requires { OnlyWhere (ComparesLarge (rows_in asked.old.now) (table_in asked.old.now) asked.change.now) fault }
     ensures { IsHinderedIn asked.entry result }
 {
-    let FlowFault::TooManyPoints = fault else {
-        return StepFault::OutOfMemory;
-    };
-    if has_compared_flow(&asked.change.course) {
-        StepFault::TooLarge(Size::Flow)
-    } else {
-        StepFault::OutOfMemory
+    match fault {
+        FlowFault::TooManyPoints => StepFault::TooLarge(Size::Flow),
+        FlowFault::OutOfMemory => StepFault::OutOfMemory,
     }
 }
 

@@ -1,5 +1,9 @@
-use Rattle.jr_engine.proofs.Stepping.{control_hinders, control_lost, flow_kept, uses_lost}
+use Rattle.jr_engine.proofs.Stepping.{compared_large, control_hinders, control_lost, flow_kept, uses_lost}
 use Rattle.jr_engine.proofs.edges.keeps_control.Goals as goal
+
+pub not_compared-requires : goal.not_compared-requires
+not_compared-requires c = compared_large c.args.asked c.args.locked.now c.project_of-old.result c.project_of-new.result c.requires.old c.requires.new c.requires.sound c.requires.bound c.requires.by c.project_of-old.ensures.rows
+    c.project_of-new.ensures.rows c.project_of-old.ensures.view c.project_of-new.ensures.view c.in-Err.fault c.in-Err.ensures.large
 
 pub returns-in-None-clause-ok : goal.returns-in-None-clause-ok
 returns-in-None-clause-ok c = flow_kept c.args.asked c.args.locked.now c.project_of-old.result c.project_of-new.result c.requires.old c.requires.new c.requires.sound c.requires.bound c.requires.by
