@@ -14,4 +14,4 @@ returns-clause-graph c = λ w method seen few inner other. let p = c.args.locked
     )
 
 pub returns-in_err-outer-clause-large : goal.returns-in_err-outer-clause-large
-returns-in_err-outer-clause-large c = λ w seen few. let q = err_from_is_err_and c.from_residual-in_err-outer.result c.from_residual-in_err-outer.ensures.1 in rw (q.1, q.2) (c.in_err-outer.ensures.large w seen few)
+returns-in_err-outer-clause-large c = λ w seen few. let q = err_from_is_err_and c.from_residual.result c.from_residual.ensures.1 in rw (q.1, q.2) (c.in_err-outer.ensures.large w seen few)

@@ -137,7 +137,7 @@ returns-clause-only_uses c = λ m w seen other hands. let p = c.args.old.now.mar
     let is_row = c.is_apart.ensures.row c.if-not-is_apart.false in let few = rows_few c.args.locked.now w other in let other_body = c.is_apart.ensures.apart c.if-not-is_apart.false in
     let before_graph = c.in_ok-before.ensures.graph m seen copy.1 in
     let after_graph = c.in_ok-after.ensures.graph w method other round.is.few (c.in_ok-inner.ensures.graph w other is_row) other_body in
-    let last = other.tree.last after round.is.few in let to = round.to in let few_call = omega (arith, few, last, to) in
+    let last = other.tree.last after round.is.few in let to = round.to in
     let up : statement_round q call call ≤ call = statement_before q (parent_before q other.tree) call call in
     let is_few = round.is.few in
     let graph : IsGraph (joined_flow q w after call method) after joined.points.items (steps_of joined) = after_graph.1 in
@@ -160,7 +160,7 @@ returns-clause-only_uses c = λ m w seen other hands. let p = c.args.old.now.mar
     (subst (λ os. IsLost q w (joined_flow q w keeps.after call method) call method (origin_in os) → ⊥) (sym c.as_slice.ensures.value) keeps.extracted.unlost)))
     (c.lost_in_extracted.ensures.only_uses m w before_graph.1
     (subst (λ n. IsGraph (joined_flow q w n call method) n joined.points.items (steps_of joined)) (sym after_graph.0) after_graph.1) (c.in_ok-inner.ensures.graph w other is_row) (λ e. other_body (sym after_graph.0 ∙ e))
-    few_call (omega (arith, few, is_row)) (omega (arith, few, last, to, up)) (subst (λ os. HandsOnce c.both.result q joined.points.items call method (origin_in os)) (sym c.as_slice.ensures.value) once))
+    (omega (arith, few, last, to)) (omega (arith, few, is_row)) (omega (arith, few, last, to, up)) (subst (λ os. HandsOnce c.both.result q joined.points.items call method (origin_in os)) (sym c.as_slice.ensures.value) once))
 
 pub returns-in_err-before-clause-large : goal.returns-in_err-before-clause-large
 returns-in_err-before-clause-large c = λ m w seen other. let p = c.args.old.now.marks.rows.now in let origin = c.args.locks.now.origin.items in let after = c.in-Some.copy in

@@ -89,7 +89,7 @@ returns-clause-only_uses c = λ m w seen other. let p = c.args.old.now.marks.row
     (c.lost_in_moved.ensures.only_uses m w before_graph.1 after_graph.1)
 
 pub returns-in_err-before-clause-large : goal.returns-in_err-before-clause-large
-returns-in_err-before-clause-large c = λ m w seen other. let q = err_from_is_err_and c.from_residual-in_err-before.result c.from_residual-in_err-before.ensures.1 in rw (q.1, q.2) (only_where (HasLarge c.args.old.now.marks.rows.now m) (HasLarge c.args.old.now.marks.rows.now m ⊎ HasLarge c.args.locked.now.marks.rows.now w) c.in_err-before.field-0.0 (λ h. inl h) (c.in_err-before.ensures.large m seen (c.is_row.ensures.0 c.if-not-is_row.false)))
+returns-in_err-before-clause-large c = λ m w seen other. let q = err_from_is_err_and c.from_residual.result c.from_residual.ensures.1 in rw (q.1, q.2) (only_where (HasLarge c.args.old.now.marks.rows.now m) (HasLarge c.args.old.now.marks.rows.now m ⊎ HasLarge c.args.locked.now.marks.rows.now w) c.in_err-before.field-0.0 (λ h. inl h) (c.in_err-before.ensures.large m seen (c.is_row.ensures.0 c.if-not-is_row.false)))
 
 pub returns-in_err-after-clause-large : goal.returns-in_err-after-clause-large
 returns-in_err-after-clause-large c = λ m w seen other. let q = c.args.locked.now.marks.rows.now in let copies = c.args.locks.now.copy.items in let body = c.args.method in
