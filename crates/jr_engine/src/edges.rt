@@ -120,7 +120,7 @@ fn keeps_control(
 ) -> Result<Option<LostEdge>, StepFault>
     requires { IsReady asked locked.now }
     ensures ok { IfOk result (λ def_use. def_use ≡ None → KeepsFlowIn asked.entry locked.now) }
-    ensures uses { IfOk result (λ def_use. (edge : LostEdge) → def_use ≡ Some edge → LosesUses (rows_in asked.old.now) (table_in asked.old.now) asked.change.now) }
+    ensures uses { IfOk result (λ def_use. (edge : LostEdge) → def_use ≡ Some edge → LosesUses (rows_in asked.entry.old.now) (table_in asked.entry.old.now) asked.entry.change.now) }
     ensures err { IfErr result (IsHinderedIn asked.entry) }
 {
     let are_kept = keeps_bodies(alloc, asked, locked)?;

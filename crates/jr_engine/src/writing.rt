@@ -193,7 +193,7 @@ fn type_change(place: Place) -> StepFault
 
 // After an inlining each expression that stays has the type that it had.
 fn keeps_types(spelled: Spelled, edits: &[Edits]) -> Result<(), StepFault>
-    requires { IsReady spelled.entry.asked spelled.entry.locked.now }
+    requires { IsReady spelled.asked spelled.locked.now }
     ensures { IfErr result (IsRetypedIn spelled.entry.asked) }
 {
     let asked = spelled.asked;
@@ -220,7 +220,7 @@ fn is_left_as(
     files: &Files,
     program: &Workspace,
 ) -> Result<(), StepFault>
-    requires { IsReady spelled.entry.asked spelled.entry.locked.now }
+    requires { IsReady spelled.asked spelled.locked.now }
     ensures ok { IfOk result (λ _. IsSpelledIn spelled.entry program.now) }
     ensures err { IfErr result (AreNotLeft spelled.entry.asked (finite.entries files.now)) }
 {
@@ -238,7 +238,7 @@ fn left_as(
     edits: &[Edits],
     files: Files,
 ) -> Result<Left, StepFault>
-    requires ready { IsReady spelled.entry.asked spelled.entry.locked.now }
+    requires ready { IsReady spelled.asked spelled.locked.now }
     requires small { spec.AreSmall (finite.entries files) }
     ensures ok { IfOk result (λ left. IsLeftOf spelled.entry.locked.now spelled.entry.spellings.now left) }
     ensures files { IfOk result (λ left. left.files ≡ files) }
@@ -265,7 +265,7 @@ struct NewTexts {
 
 // The changed program with the edits of the spellings.
 fn new_texts(alloc: Global, spelled: Spelled) -> Result<NewTexts, OutOfMemory>
-    requires { IsReady spelled.entry.asked spelled.entry.locked.now }
+    requires { IsReady spelled.asked spelled.locked.now }
     ensures are { IfOk result (λ all. AreTextsOf spelled.entry.locked.now spelled.entry.spellings.now (plain all.texts.items)) }
     ensures small { IfOk result (λ all. spec.AreSmall (plain all.texts.items)) }
 {
@@ -278,7 +278,7 @@ fn new_texts(alloc: Global, spelled: Spelled) -> Result<NewTexts, OutOfMemory>
 
 // The files that these texts are, if they are a program as it was to be written. Paths that do not rise are not as they were to be.
 fn left_with(alloc: Global, spelled: Spelled, new: NewTexts) -> Result<Left, StepFault>
-    requires ready { IsReady spelled.entry.asked spelled.entry.locked.now }
+    requires ready { IsReady spelled.asked spelled.locked.now }
     requires small { spec.AreSmall (plain new.texts.items) }
     ensures ok { IfOk result (λ left. IsLeftOf spelled.entry.locked.now spelled.entry.spellings.now left) }
     ensures files { IfOk result (λ left. finite.entries left.files ≡ plain new.texts.items) }
@@ -293,7 +293,7 @@ fn left_with(alloc: Global, spelled: Spelled, new: NewTexts) -> Result<Left, Ste
 
 /// The files that are left where references are written so, if they may be left; else why those that were to be left may not be.
 pub fn left_of(alloc: Global, spelled: Spelled) -> Result<Left, StepFault>
-    requires { IsReady spelled.entry.asked spelled.entry.locked.now }
+    requires { IsReady spelled.asked spelled.locked.now }
     ensures ok { IfOk result (λ left. IsLeftOf spelled.entry.locked.now spelled.entry.spellings.now left) }
     ensures texts { IfOk result (HasTextsOf spelled.entry.locked.now spelled.entry.spellings.now) }
     ensures err { IfErr result (IsNotLeft spelled.entry.asked spelled.entry.locked.now spelled.entry.spellings.now) }
