@@ -101,7 +101,7 @@ SHAPES = [
     ('constructors of one class', lambda n: in_class(lines(f'  A({TYPES[k % 24]} a, {TYPES[k // 24 % 24]} b, {TYPES[k // 576 % 24]} c) {{ }}' for k in range(n))), 8000),
     ('member classes of one class', lambda n: in_class(lines(f'  class B{k} {{ int a; }}' for k in range(n))), 16000),
     ('final fields without initializer', lambda n: in_class(lines(f'  final int x{k};' for k in range(n)) + '\n  A() {\n' + lines(f'    x{k} = {k};' for k in range(n)) + '\n  }'), 8000),
-    ('locals that are assigned in two branches', lambda n: in_method(lines(f'    int x{k}; if (c) x{k} = 1; else x{k} = 2;' for k in range(n)) + '\n    return x0;'), 8000),
+    ('locals that are assigned in two branches', lambda n: in_method(lines(f'    int x{k}; if (c) x{k} = 1; else x{k} = 2; x0 = x{k};' for k in range(n)) + '\n    return x0;'), 8000),
     ('locals, each of which is read', lambda n: in_method('    int x0 = 1;\n' + lines(f'    int x{k} = x{k - 1};' for k in range(1, n)) + '\n    return x0;'), 16000),
     ('loops that are left by a label', lambda n: in_method(lines(f'    l{k}: while (c) {{ if (c) break l{k}; }}' for k in range(n)) + '\n    return 0;'), 8000),
     ('returns in try with finally', lambda n: in_method(lines('    try { if (c) return 1; } finally { c = !c; }' for k in range(n)) + '\n    return 0;'), 8000),

@@ -7,7 +7,6 @@ use Rattle.jr_tree.specs.declared.label.Label.{Label}
 use Rattle.jr_tree.specs.declared.label.Label.TheVariants as is
 use Rattle.jr_tree.specs.Rows.{Rows, label, parent, end, previous}
 use Rattle.jr_tree.specs.Tree.{IsTree}
-use Rattle.jr_plain.specs.Search.{all_below}
 use Rattle.jr_plain.proofs.Children.{IsChild, child_below}
 use Rattle.jr_assign.specs.declared.scope.Reads.{Reads}
 use Rattle.jr_assign.specs.Changes.{Facts, fact, member_in}

@@ -1,5 +1,5 @@
 -- A local whose declarator has an initializer is assigned wherever it is in scope, but in the later groups of a switch (JLS 6.3, 14.4, 16.2.4, 16.2.9, 16.2.12).
-use Rattle.std.specs.Prelude.{ℕ, ◌+◌, Bool, true, false, not, ◌&&◌, if◌then◌else◌, List, length, Option, Some, None, is_none, nat_eq, nat_lt, slice_set}
+use Rattle.std.specs.Prelude.{ℕ, ◌+◌, Bool, true, false, not, ◌&&◌, if◌then◌else◌, length, Option, Some, None, is_none, nat_eq, nat_lt, slice_set}
 use Rattle.jr_tree.specs.declared.label.Label.{Label}
 use Rattle.jr_tree.specs.declared.label.Label.TheVariants as is
 use Rattle.jr_tree.specs.Rows.{Rows, label, parent, end, previous}
