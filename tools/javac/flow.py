@@ -339,7 +339,7 @@ class Code:
         part, switch = None, None
         for line in text:
             words = line.split() or ['']
-            if re.match(r' {4}\S', line):
+            if re.match(r' {4}[A-Z]', line):
                 part = words[0]
             elif part == 'Code:' and switch is not None:
                 self.ops[-1][2].append(int(words[-1])) if words[0] != '}' else None
@@ -434,7 +434,7 @@ class Bytecode:
             name = self.code.local(int(words[0].rstrip(',')), at)
             return ['use ' + name, 'def ' + name]
         found = self.slot(op, words)
-        name = found and self.code.local(found[1], at if found[0] == 'load' else behind)
+        name = found and (found[0] == 'store' and self.code.local(found[1], behind) or self.code.local(found[1], at))
         if name is None and any(target == at and not takes_all for _, _, target, takes_all in self.code.handlers):
             # The parameter of a catch with an empty block is in no table.
             name = self.caught_at[self.code.line(at)]
