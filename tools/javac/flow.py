@@ -228,6 +228,8 @@ class Drawn:
             return 'item', n
         if kind == 'Cast':
             return 'cast', n
+        if kind == 'Field':
+            return 'write ' + row['name'], n
         if kind == 'Binary' or kind == 'Assign' and i + 1 < len(acts):
             return self.operator_label(n, row, i, len(acts))
         place = self.model.operand(n)
@@ -350,7 +352,7 @@ class Code:
                 self.ops.append((at, op, [] if switch else words[2:]))
             elif part == 'Exception' and words[0].isdigit():
                 self.handlers.append((int(words[0]), int(words[1]), int(words[2]), words[3] == 'any'))
-            elif part == 'LineNumberTable:':
+            elif part == 'LineNumberTable:' and words[0] == 'line':
                 self.lines.append((int(words[2]), int(words[1][:-1])))
             elif part == 'LocalVariableTable:' and words[0].isdigit():
                 self.variables.append((int(words[0]), int(words[0]) + int(words[1]), int(words[2]), words[3]))
@@ -561,11 +563,25 @@ def compare(drawn, code, show):
 
 
 def bodies(meaning, graphs):
+    """Methods and constructors, and an initializer or static field that is all of its class's `<clinit>`."""
+    static = {}
     for body in sorted(graphs):
         row = meaning.rows[body]
+        is_constant = row['kind'] == 'Field' and row['says']['is_final'] and meaning.is_constant(body + 2)
+        if row['kind'] in ('Field', 'Initializer') and row['says']['is_static'] and not is_constant:
+            static.setdefault(class_round(meaning.rows, body), []).append(body)
+    for body in sorted(graphs):
+        row, over = meaning.rows[body], class_round(meaning.rows, body)
         if row['kind'] in ('Method', 'Constructor'):
-            over = meaning.rows[meaning.rows[row['parent']]['parent']]
-            yield body, over['name'], row['name'] if row['kind'] == 'Method' else over['name']
+            yield body, over, row['name'] if row['kind'] == 'Method' else over
+        elif static.get(over) == [body]:
+            yield body, over, '<clinit>'
+
+
+def class_round(rows, n):
+    while rows[n]['kind'] not in ('Class', 'Interface'):
+        n = rows[n]['parent']
+    return rows[n]['name']
 
 
 def code_of(codes, rows, body, over, name):

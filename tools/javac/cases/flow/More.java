@@ -1,4 +1,18 @@
 public class More extends Base {
+    static {
+        int a = h();
+        for (int i = 0; i < a; i++) {
+            try {
+                if (p(i)) continue;
+                one = new Base(a / i, one);
+            } catch (ArithmeticException e) {
+                break;
+            } finally {
+                count += i;
+            }
+        }
+    }
+
     More(int a) {
         super(a);
     }
@@ -99,5 +113,13 @@ public class More extends Base {
             run(1);
             if (q(e)) return e;
         }
+    }
+}
+
+class Held extends Base {
+    static int[][] held = { { g(1), count++ }, list(h()), null };
+
+    Held(int a) {
+        super(held[a][0]);
     }
 }
