@@ -263,8 +263,8 @@ size_hinders a locked all what by first read (inl h) = IsTooLarge.by_files (to_b
 size_hinders a locked all what by first read (inr h) = absurd h
 
 none_bars : (a : Asked) (locked : Locked) (all : List Spelling) (why : StepFault) → ((texts : List (List ℕ × List ℕ)) → Bars texts why → ⊥) → (IsRetypedIn a why → ⊥) → HasBarredTexts locked all why ⊎ IsRetypedIn a why → ⊥
-none_bars a locked all why no none (inl h) = no h.texts h.bars
-none_bars a locked all why no none (inr h) = none h
+none_bars a locked all why unbarred none (inl h) = unbarred h.texts h.bars
+none_bars a locked all why unbarred none (inr h) = none h
 
 not_left_hinders : (a : Asked) (locked : Locked) (all : List Spelling) (why : StepFault) → IsLockedBy a locked → AreFirstIn a locked all → IsReadBy a locked → IsNotLeft a locked all why → IsHinderedIn a why
 not_left_hinders a locked all (step.Broken rule place) by first read h = rule_hinders a locked all rule place by first read h
@@ -540,6 +540,7 @@ pub retyped_so : (a : Asked) (locked : Locked) (old new : Project) (row : ℕ) (
     → IsViewOf (rows_in a.old.now) a.old.now.places.value a.old.now.scopes.value a.old.now.bound.value old.view
     → ((before after : Typed) → AreCompared old new locked.locks a.change.now before after → IsRetypedIf old.marks.rows.now a.change.now before after new.marks found) → found ≡ Some row
     → told ≡ step.Broken TypeChange place → IsRetypedIn a told
+unfolding compared
 retyped_so a locked old new row found place told ready rows of old_of tells some e =
     let m = meaning_in a.old.now in
     let w = meaning_in locked.program in
