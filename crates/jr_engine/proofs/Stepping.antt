@@ -263,8 +263,8 @@ size_hinders a locked all what by first read (inl h) = IsTooLarge.by_files (to_b
 size_hinders a locked all what by first read (inr h) = absurd h
 
 none_bars : (a : Asked) (locked : Locked) (all : List Spelling) (why : StepFault) → ((texts : List (List ℕ × List ℕ)) → Bars texts why → ⊥) → (IsRetypedIn a why → ⊥) → HasBarredTexts locked all why ⊎ IsRetypedIn a why → ⊥
-none_bars a locked all why unbarred none (inl h) = unbarred h.texts h.bars
-none_bars a locked all why unbarred none (inr h) = none h
+none_bars a locked all why unbarred kept (inl h) = unbarred h.texts h.bars
+none_bars a locked all why unbarred kept (inr h) = kept h
 
 not_left_hinders : (a : Asked) (locked : Locked) (all : List Spelling) (why : StepFault) → IsLockedBy a locked → AreFirstIn a locked all → IsReadBy a locked → IsNotLeft a locked all why → IsHinderedIn a why
 not_left_hinders a locked all (step.Broken rule place) by first read h = rule_hinders a locked all rule place by first read h
