@@ -11,11 +11,11 @@ use Rattle.jr_copied_flow.specs.Alone.{copy_in, IsLeftAlone, KeepsMeaning, Keeps
 use Rattle.jr_copied_flow.proofs.Kept.{flow_is_kept}
 use Rattle.jr_meaning.specs.Whole.{nears}
 use Rattle.jr_meaning.specs.Kept.{KeepsBodies, IsRun, AreKept, rows_of, KeepBodies, AreNears}
-use Rattle.jr_meaning.proofs.Firsts.{seen_from, sees_first, copy_is}
+use Rattle.jr_meaning.proofs.Firsts.{seen_from, sees_first, copy_is, copy_is_row}
 use Rattle.jr_meaning.proofs.Likeness.{IsLike, alike_tells}
 use Rattle.jr_meaning.proofs.Holds.{whole_by}
 
-module _ (p q : Rows) (m w : Meaning) (change : Change) (fits : length p ≤ no_row) (here : IsTree p) (there : IsTree q) (changed : IsChanged p m.targets change q w.targets) where
+module _ (p q : Rows) (m w : Meaning) (change : Change) (fits : length p ≤ no_row) (room : length q ≤ no_row) (here : IsTree p) (there : IsTree q) (changed : IsChanged p m.targets change q w.targets) where
   abbrev copies : List ℕ
   copies = copies_by (origins_by change) (length p)
 
@@ -41,7 +41,9 @@ module _ (p q : Rows) (m w : Meaning) (change : Change) (fits : length p ≤ no_
         let first : In body = record { from = omega arith; to = here.nested body } in
         let one = copied n i in
         let other = copied body first in
-        omega (arith, one, other, low)
+        let row = copy_is_row p change body at fits_end alone n i in
+        let count = changed.count in
+        (omega (arith, one, other, low), omega (arith, one, row, count, room))
 
     kept : AreKept p q m w (nears p true (length p)) (nears p false (length p)) copies (rows_of p body) (end p body)
     kept = (keep body few).keeps code run
@@ -70,10 +72,10 @@ module _ (p q : Rows) (m w : Meaning) (change : Change) (fits : length p ≤ no_
   all_kept : Keep → KeepsBodies p q m w change
   all_kept keep = record { keeps = λ body at few code alone. kept_flow keep body at few code alone }
 
-pub bodies_kept : (p q : Rows) (m w : Meaning) (change : Change) (targets loops copy : List ℕ) (count : ℕ) → count ≡ length p → length p + 3 < 4294967296 → AreNears p targets loops
+pub bodies_kept : (p q : Rows) (m w : Meaning) (change : Change) (targets loops copy : List ℕ) (count : ℕ) → count ≡ length p → length p + 3 < 4294967296 → length q + 3 < 4294967296 → AreNears p targets loops
     → copy ≡ copies_by (origins_by change) (length p) → IsTree p → IsTree q → IsChanged p m.targets change q w.targets → KeepBodies p q m w targets loops copy count → KeepsBodies p q m w change
-bodies_kept p q m w change targets loops copy count all few near same here there changed keep =
-    all_kept p q m w change (omega (arith, few)) here there changed
+bodies_kept p q m w change targets loops copy count all few few_new near same here there changed keep =
+    all_kept p q m w change (omega (arith, few)) (omega (arith, few_new)) here there changed
     (subst (λ n. KeepBodies p q m w (nears p true (length p)) (nears p false (length p)) (copies_by (origins_by change) (length p)) n) all
     (subst (λ xs. KeepBodies p q m w (nears p true (length p)) (nears p false (length p)) xs count) same
     (subst (λ xs. KeepBodies p q m w (nears p true (length p)) xs copy count) near.looped

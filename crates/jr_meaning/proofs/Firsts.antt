@@ -78,11 +78,14 @@ module _ (p : Rows) (change : Change) (body at : ℕ) (fits : end p body ≤ no_
   from_copy n i = let f = i.from in let t = i.to in let back : body + (n - body) ≡ n = omega (arith, f) in
       each_origin p change body at alone.one (n - body) (omega (arith, f, t)) ∙ back
 
+  -- the copy of a row of the body is a row
+  pub copy_is_row : (n : ℕ) → IsIn p body n → copy_in body at n < length (origins_by change)
+  copy_is_row n i = let t = i.to in is_row (origins_by change) (copy_in body at n) n (from_copy n i) (omega (arith, t, fits))
+
   -- a row of the body has its copy in that of the body
   pub copy_is : (n : ℕ) → IsIn p body n → n < length p → origin_of (copies_by (origins_by change) (length p)) n ≡ copy_in body at n
   copy_is n i few =
-      let t = i.to in
       let zeroth : 0 + copy_in body at n ≡ copy_in body at n = omega arith in
       get_or-map-range_with_len (λ d. first_copy (origins_by change) d 0) 0 (length p) n n no_row few (omega arith)
-      ∙ (first_is (origins_by change) n 0 (copy_in body at n) (is_row (origins_by change) (copy_in body at n) n (from_copy n i) (omega (arith, t, fits))) (from_copy n i)
+      ∙ (first_is (origins_by change) n 0 (copy_in body at n) (copy_is_row n i) (from_copy n i)
       (λ e less same. let one = alone.once n e i same in absurd (omega (arith, one, less))) ∙ zeroth)

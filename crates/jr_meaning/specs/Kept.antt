@@ -5,7 +5,7 @@ use Rattle.jr_flow_defs.specs.Meaning.{Meaning}
 use Rattle.jr_flow_laws.specs.Shifted.{declares_code}
 use Rattle.jr_change.specs.declared.change.Change.{Change}
 use Rattle.jr_change.specs.declared.change.RowRange.{RowRange}
-use Rattle.jr_locks.specs.Origins.{origin_of}
+use Rattle.jr_locks.specs.Origins.{no_row, origin_of}
 use Rattle.jr_copied_flow.specs.Alone.{IsLeftAlone, KeepsFlowAt}
 use Rattle.jr_meaning.specs.Meaning.{is_alike}
 use Rattle.jr_meaning.specs.Whole.{nears, is_whole_at}
@@ -16,9 +16,9 @@ pub record KeepsBodies (p q : Rows) (m w : Meaning) (change : Change) : Type 0 w
 
 -- ---- as the code finds it
 
--- the rows have their copies one behind the other
+-- the rows have copies, one behind the other
 abbrev pub IsRun : List ℕ → RowRange → Type 0
-IsRun copy range = (n : ℕ) → range.first ≤ n → n < range.end → origin_of copy n ≡ origin_of copy range.first + (n - range.first)
+IsRun copy range = (n : ℕ) → range.first ≤ n → n < range.end → (origin_of copy n ≡ origin_of copy range.first + (n - range.first)) × (origin_of copy n < no_row)
 
 -- the row n of a range has what a body by itself has, and means what the row k of the other program means
 pub record IsKeptRow (p q : Rows) (m w : Meaning) (targets loops : List ℕ) (range : RowRange) (n k : ℕ) : Type 0 where
@@ -32,7 +32,7 @@ AreKept p q m w targets loops copy range stop = (n : ℕ) → range.first ≤ n 
 abbrev pub rows_of : Rows → ℕ → RowRange
 rows_of p body = record { first = body; end = end p body }
 
--- where the rows of the body have their copies one behind the other, they do
+-- where the rows of the body have copies, one behind the other, they do
 pub record KeepsBody (p q : Rows) (m w : Meaning) (targets loops copy : List ℕ) (body : ℕ) : Type 0 where
   pub keeps : declares_code (label p body) ≡ true → IsRun copy (rows_of p body) → AreKept p q m w targets loops copy (rows_of p body) (end p body)
 

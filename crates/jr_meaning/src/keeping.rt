@@ -6,6 +6,7 @@ ghost use Rattle.jr_flow_defs.specs.Meaning.{Meaning};
 ghost use Rattle.jr_flow_laws.specs.Shifted as laws;
 ghost use Rattle.jr_change.specs.declared.change.Change.{Change};
 ghost use Rattle.jr_locks.specs.Changed.{IsChanged, copies_by, origins_by};
+ghost use Rattle.jr_locks.specs.Origins.{no_row};
 ghost use Rattle.jr_meaning.specs.Meaning.{IsMeant};
 ghost use Rattle.jr_meaning.specs.Kept as tell;
 
@@ -14,19 +15,19 @@ use crate::nearing::nears_of;
 use crate::reading::{Meant, row_in};
 use crate::telling::is_alike;
 use jr_base::OutOfMemory;
-use jr_change::RowRange;
+use jr_change::{NO_ROW, RowRange};
 use jr_places::end_at;
 use jr_tree::{Label, Row};
 use std::alloc::Global;
 
 // A row of a run that begins with the row `from`, whose copy is `first`, has its copy so far behind that.
 fn follows(first: u32, from: u32, copy: u32, at: u32) -> bool
-    ensures { copy ≡ first + (at - from) → result ≡ true }
+    ensures { copy ≡ first + (at - from) → copy < no_row → result ≡ true }
 {
-    first <= copy && copy.saturating_sub(first) == at.saturating_sub(from)
+    copy < NO_ROW && (first <= copy && copy.saturating_sub(first) == at.saturating_sub(from))
 }
 
-// The rows of a range have their copies one behind the other, as those of a body that is left alone.
+// The rows of a range have copies, one behind the other, as those of a body that is left alone.
 fn is_run(copy: &[u32], range: RowRange) -> bool
     ensures { tell.IsRun copy.now range → result ≡ true }
 {

@@ -8,5 +8,5 @@ returns-in_default c = λ near m w change old new copies here there changed e. a
 
 pub returns : goal.returns
 returns c = λ near m w change old new copies here there changed e. let all : c.in-Ok.count ≡ length c.args.old.now.rows.now = c.in-Ok.ensures.1 in
-    bodies_kept c.args.old.now.rows.now c.args.new.now.rows.now m w change c.args.targets.now c.args.loops.now c.args.copy.now c.in-Ok.count all old.few near copies here there changed
+    bodies_kept c.args.old.now.rows.now c.args.new.now.rows.now m w change c.args.targets.now c.args.loops.now c.args.copy.now c.in-Ok.count all old.few new.few near copies here there changed
     (c.keeps_bodies.ensures (omega (arith, all)) here m w old new e)
