@@ -444,9 +444,9 @@ module _ (asked : Asked) (locked : Locked) (old new : Project) (bound : IsBoundI
       → ((m w : Meaning) → IsSeen old m → IsSeen new w → control ≡ None → KeepsCourse asked.change.now.course old.marks.rows.now new.marks.rows.now m w locked.locks.origin.items locked.locks.copy.items)
       → ((m w : Meaning) → IsSeen old m → IsSeen new w → control ≡ None → uses ≡ None → KeepsUsesOf asked.change.now.course old.marks.rows.now new.marks.rows.now m w locked.locks.origin.items locked.locks.copy.items)
       → ((m w : Meaning) → IsSeen old m → IsSeen new w → control ≡ None → uses ≡ None → KeepsRaisedFlow asked.change.now.raised old.marks.rows.now new.marks.rows.now m w locked.locks.origin.items locked.locks.copy.items)
-      → KeepsBodiesIn asked locked → control ≡ None → uses ≡ None → KeepsFlowIn asked locked
+      → control ≡ None → uses ≡ None → KeepsBodiesIn asked locked → KeepsFlowIn asked locked
   unfolding compared
-  flow_kept control uses told uses_told raised_told alone nothing no_use =
+  flow_kept control uses told uses_told raised_told nothing no_use alone =
       let m = meaning_in asked.old.now in
       let w = meaning_in locked.program in
       let kept = of_programs asked locked old new (IsCourseKept asked m w) by old_rows new_rows (told m w old_seen new_seen nothing, uses_told m w old_seen new_seen nothing no_use, raised_told m w old_seen new_seen nothing no_use) in

@@ -7,7 +7,7 @@ ghost use Rattle.jr_kept.specs.declared.kept.LostEdge.{LostEdge};
 ghost use Rattle.jr_engine.specs.Refusing.{IsHinderedIn, IsLargeIn};
 ghost use Rattle.jr_flow.specs.Numbered.{OnlyWhere};
 ghost use Rattle.jr_engine.specs.Comparing.{ComparesLarge, LosesUses};
-ghost use Rattle.jr_engine.specs.Written.{HasTables, IsReady, KeepsCallsIn, KeepsFlowIn};
+ghost use Rattle.jr_engine.specs.Written.{HasTables, IsReady, KeepsBodiesIn, KeepsCallsIn, KeepsFlowIn};
 ghost use Rattle.jr_engine.specs.declared.fault.LostKind.TheVariants as kind;
 ghost use Rattle.jr_engine.specs.declared.fault.StepFault.TheVariants as step;
 
@@ -112,21 +112,17 @@ fn not_compared(asked: Asked, fault: FlowFault) -> StepFault
     }
 }
 
-// Control goes as before, and where no edge from a definition to a use is lost, uses have the values that they had. It gives the first that is lost.
+// Control goes as before where statements move, and where no edge from a definition to a use is lost, uses have the values that they had. It gives the first that is lost.
 fn keeps_control(
     alloc: Global,
     asked: Asked,
     locked: &Locked,
 ) -> Result<Option<LostEdge>, StepFault>
     requires { IsReady asked locked.now }
-    ensures ok { IfOk result (λ def_use. def_use ≡ None → KeepsFlowIn asked.entry locked.now) }
+    ensures ok { IfOk result (λ def_use. def_use ≡ None → KeepsBodiesIn asked.entry locked.now → KeepsFlowIn asked.entry locked.now) }
     ensures uses { IfOk result (λ def_use. (edge : LostEdge) → def_use ≡ Some edge → LosesUses (rows_in asked.entry.old.now) (table_in asked.entry.old.now) asked.entry.change.now) }
     ensures err { IfErr result (IsHinderedIn asked.entry) }
 {
-    let are_kept = keeps_bodies(alloc, asked, locked)?;
-    if !are_kept {
-        return Err(asked.differs());
-    }
     let old = project_of(asked.old);
     let new = project_of(&locked.program);
     let flow = match lost_flow(alloc, &old, &new, &locked.locks, asked.change) {
@@ -136,6 +132,20 @@ fn keeps_control(
     match flow.control {
         Some(edge) => Err(lost(LostKind::Control, edge)),
         None => Ok(flow.def_use),
+    }
+}
+
+// Bodies that are left alone mean what they meant; others were not to be written.
+fn keeps_others(alloc: Global, asked: Asked, locked: &Locked) -> Result<(), StepFault>
+    requires { IsReady asked locked.now }
+    ensures ok { IfOk result (λ _. KeepsBodiesIn asked.entry locked.now) }
+    ensures err { IfErr result (IsHinderedIn asked.entry) }
+{
+    let are_kept = keeps_bodies(alloc, asked, locked)?;
+    if are_kept {
+        Ok(())
+    } else {
+        Err(asked.differs())
     }
 }
 
@@ -151,6 +161,9 @@ pub fn keeps_edges(alloc: Global, asked: Asked, locked: &Locked) -> Result<(), S
     keeps_calls(alloc, asked, locked)?;
     match def_use {
         Some(edge) => Err(lost(LostKind::DefUse, edge)),
-        None => Ok(()),
+        None => {
+            keeps_others(alloc, asked, locked)?;
+            Ok(())
+        }
     }
 }

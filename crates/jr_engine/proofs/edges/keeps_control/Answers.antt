@@ -8,7 +8,7 @@ not_compared-requires c = compared_large c.args.asked c.args.locked.now c.projec
 pub returns-in-None-clause-ok : goal.returns-in-None-clause-ok
 returns-in-None-clause-ok c = flow_kept c.args.asked c.args.locked.now c.project_of-old.result c.project_of-new.result c.requires.old c.requires.new c.requires.sound c.requires.bound c.requires.by
     c.project_of-old.ensures.rows c.project_of-new.ensures.rows c.project_of-old.ensures.view c.project_of-new.ensures.view c.in-Ok.flow.control c.in-Ok.flow.def_use c.in-Ok.ensures.control c.in-Ok.ensures.uses
-    c.in-Ok.ensures.raised_uses (c.in_ok-are_kept.ensures c.if-not-are_kept.false) c.in-None.is
+    c.in-Ok.ensures.raised_uses c.in-None.is
 
 pub returns-in-None-clause-uses : goal.returns-in-None-clause-uses
 returns-in-None-clause-uses c = λ edge. uses_lost c.args.asked c.args.locked.now c.project_of-old.result c.project_of-new.result c.requires.old c.requires.new c.requires.sound c.requires.bound c.requires.by
