@@ -23,7 +23,7 @@ use Rattle.jr_kept.specs.Disturbed.{local_of}
 use Rattle.jr_kept.specs.Gathered.{use_in, pair_of}
 use Rattle.jr_kept.specs.Searched.{AreWithin}
 use Rattle.jr_kept.specs.Spliced.{exit_number}
-use Rattle.jr_kept.specs.Carried.{is_exit_at, is_exit_kind, Includes, Grows, OnlyBehind, IsDefinedTo, OnlyDefines, value_if, value_by, value_at, item_of, values_by, Leaves, OnlyLeaving, pairs_by, OnlyCopies, HasHub, OnlyHub, HasExits, IsUsedBehind, IsOf, IsOtherOf, IsCopyOf, IsCopyOfOne, IsOtherCopy, NoneBehind, IsUnlostBy}
+use Rattle.jr_kept.specs.Carried.{is_exit_at, is_exit_kind, Includes, Grows, OnlyBehind, IsDefinedTo, OnlyDefines, value_by, value_at, item_of, values_by, OnlyLeaving, pairs_by, OnlyCopies, HasHub, OnlyHub, HasExits, IsUsedBehind, IsOf, IsOtherOf, IsCopyOf, IsCopyOfOne, IsOtherCopy, NoneBehind, IsUnlostBy}
 use Rattle.jr_kept.proofs.Naming.{get_inside}
 use Rattle.jr_kept.proofs.Telling.{tells_both, tells_like}
 use Rattle.jr_kept.proofs.Carrying.{seen_more, point_now, exit_point, and_last}
