@@ -1,7 +1,6 @@
 -- Edges from definitions to uses of two flows, where those by the numbers of their points are kept.
 use Rattle.std.proofs.Common.{◌≡◌, refl, sym, ◌∙◌, ap, ℕ, Option, Some, None}
 use Rattle.std.proofs.lemmas.Option.{none-some}
-use Rattle.jr_flow_defs.specs.declared.point.Point.{Point}
 use Rattle.jr_flow_defs.specs.declared.point.PointKind.{PointKind}
 use Rattle.jr_flow_defs.specs.declared.point.PointKind.TheVariants as kind
 use Rattle.jr_flow_defs.specs.Paths.{Flow}
@@ -13,7 +12,7 @@ use Rattle.jr_flow.specs.Reached.{steps_of}
 use Rattle.jr_kept.specs.declared.flows.Flows.{Flows}
 use Rattle.jr_kept.specs.Named.{origin_in}
 use Rattle.jr_kept.specs.Gathered.{IsFound, IsOriginalOf}
-use Rattle.jr_kept.specs.Arrived.{old_use, use_from, KeepsUses}
+use Rattle.jr_kept.specs.Arrived.{use_from, KeepsUses}
 use Rattle.jr_kept.proofs.Comparing.{place_of}
 use Rattle.jr_kept.proofs.Uses.{old_use_out}
 

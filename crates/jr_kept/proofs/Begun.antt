@@ -1,5 +1,5 @@
 -- What acts in initializations of classes.
-use Rattle.std.proofs.Common.{◌≡◌, refl, sym, ◌∙◌, ap, subst, ℕ, Bool, true, false, List, if◌then◌else◌, Option, Some, None, IfSome, nat_eq, slice_get}
+use Rattle.std.proofs.Common.{◌≡◌, refl, sym, ◌∙◌, ap, ℕ, Bool, true, false, List, if◌then◌else◌, Option, Some, None, IfSome, nat_eq, slice_get}
 use Rattle.std.proofs.lemmas.Bool.{false≢true}
 use Rattle.std.proofs.lemmas.Bool.Decides.{Decides-eqb}
 use Rattle.std.specs.Option.{option_eq}
@@ -10,15 +10,14 @@ use Rattle.jr_tree.specs.Rows.{Rows, label}
 use Rattle.jr_defs.specs.declared.referent.Referent.{Referent}
 use Rattle.jr_defs.specs.declared.referent.Referent.TheVariants as referent
 use Rattle.jr_supers.specs.Tabled as tabled
-use Rattle.jr_change.specs.declared.change.Raised.{Raised}
 use Rattle.jr_flow_defs.specs.declared.point.Point.{Point}
 use Rattle.jr_flow_defs.specs.declared.point.PointKind.{PointKind}
 use Rattle.jr_flow_defs.specs.declared.point.PointKind.TheVariants as kind
 use Rattle.jr_flow_defs.specs.Meaning.{Meaning, declared}
-use Rattle.jr_flow_defs.specs.Edges.{point, body_flow, IsGraph, own_number}
+use Rattle.jr_flow_defs.specs.Edges.{point, body_flow, IsGraph}
 use Rattle.jr_flow_defs.specs.Graphs.{StepList}
 use Rattle.jr_kept.specs.Courses.{IsBody}
-use Rattle.jr_kept.specs.Started.{class_by, node_by, node_at, IsNodeAmong, IsActing, ActsAtStart, ActsAtSomeStart, CreatesAt, IsRound, IsInCreation, BeginsFirst, LeavesStart, is_creation}
+use Rattle.jr_kept.specs.Started.{class_by, node_by, node_at, IsNodeAmong, IsActing, ActsAtStart, ActsAtSomeStart, CreatesAt, IsInCreation, BeginsFirst, is_creation}
 use Rattle.jr_kept.proofs.Comparing.{place_of}
 
 abbrev IsNodeAt : ℕ → ℕ → Option Point → Type 0

@@ -18,7 +18,7 @@ use Rattle.jr_kept.specs.declared.handing.Crossing.{Crossing}
 use Rattle.jr_kept.specs.declared.handing.Handing.{Handing}
 use Rattle.jr_kept.specs.Disturbed.{is_inside, some_if}
 use Rattle.jr_kept.specs.Gathered.{use_in}
-use Rattle.jr_kept.specs.Handed.{defined_by, defined_in, used_by, added_in, IsDefinedAt, IsAddedAt, AddsOne, AddsPairs, AddsAssigned, IsPaired, AreOne, IsFrom, are_one, is_none_or, is_from, has_pair, HasPairs, HasAssigned, IsOnly, IsCrossing, IsAssignedIn, OnlyCrosses, HasCrossing, IsHandingOf}
+use Rattle.jr_kept.specs.Handed.{defined_by, defined_in, used_by, added_in, IsDefinedAt, IsAddedAt, AddsOne, AddsPairs, AddsAssigned, AreOne, IsFrom, are_one, is_none_or, is_from, has_pair, HasPairs, HasAssigned, IsOnly, IsCrossing, IsAssignedIn, OnlyCrosses, HasCrossing, IsHandingOf}
 use Rattle.jr_kept.proofs.Comparing.{place_of}
 use Rattle.jr_kept.proofs.Naming.{get_inside}
 use Rattle.jr_kept.proofs.Disturbing.{and_true, and_out, inside_tells}

@@ -23,7 +23,7 @@ use Rattle.jr_kept.specs.Searched.{HasStepTo, AreWays, AreWithin}
 use Rattle.jr_kept.specs.Spread.{AreWaysBack, IsSpread, AreSpread, OnlySpread}
 use Rattle.jr_kept.specs.declared.edges.Firsts.{Firsts}
 use Rattle.jr_kept.specs.Ordered.{Tells}
-use Rattle.jr_kept.specs.Disturbed.{is_inside, is_point_inside, such_by, is_such, AreSuch, IsBetween, AreBetween, OnlyBetween, throws, MayThrow, HasThrow, ThrowsInside, local_of, local_at, AreLocalsBelow, some_if, held_by, held_at, AddsIf, AreHeld, IsHeldAt, OnlyHeld, is_changed, disturbs_by, disturbs, NoneDisturbs, IsHeld, IsUndisturbed}
+use Rattle.jr_kept.specs.Disturbed.{is_inside, is_point_inside, such_by, is_such, AreSuch, AreBetween, OnlyBetween, throws, MayThrow, HasThrow, ThrowsInside, local_of, local_at, AreLocalsBelow, some_if, held_by, held_at, AddsIf, AreHeld, IsHeldAt, OnlyHeld, is_changed, disturbs_by, disturbs, NoneDisturbs, IsHeld, IsUndisturbed}
 use Rattle.jr_kept.proofs.Naming.{get_inside}
 use Rattle.jr_kept.proofs.Searching.{none_in}
 use Rattle.jr_kept.proofs.Telling.{tells_both, tells_like}

@@ -1,5 +1,5 @@
 -- What the table of a call gets, and that it is whole where one table can tell what crosses.
-use Rattle.std.proofs.Common.{◌≡◌, ◌⊎◌, ⊎_elim, refl, sym, ◌∙◌, ap, subst, arith, ℕ, zero, suc, ◌+◌, ◌-◌, ◌<◌, ◌≤◌, Bool, true, false, cond, if◌then◌else◌, List, [], ◌∷◌, filter, length, Option, Some, None, IfNone, IfSome, nat_lt, slice_get}
+use Rattle.std.proofs.Common.{◌≡◌, ⊎_elim, refl, sym, ◌∙◌, ap, subst, arith, ℕ, zero, suc, ◌+◌, ◌-◌, ◌<◌, ◌≤◌, Bool, true, false, cond, if◌then◌else◌, List, [], ◌∷◌, filter, length, Option, Some, None, IfNone, IfSome, nat_lt, slice_get}
 use Rattle.std.specs.List.{AllByRecursion}
 use Rattle.std.proofs.lemmas.Bool.{cases_lt}
 use Rattle.std.proofs.lemmas.Option.{none-some, same_Some, slice_get_within}
@@ -15,7 +15,6 @@ use Rattle.jr_flow_defs.specs.Graphs.{StepList}
 use Rattle.jr_flow_defs.specs.Kept.{Origin, parameters, statement_round, IsAssigned, IsReturned}
 use Rattle.jr_kept.specs.declared.handing.Crossing.{Crossing}
 use Rattle.jr_kept.specs.declared.handing.Handing.{Handing}
-use Rattle.jr_kept.specs.Gathered.{use_in}
 use Rattle.jr_kept.specs.Handed.{defined_in, IsDefinedAt, IsAddedAt, IsPaired, IsCrossing, IsAssignedIn, Spans, IsSpanned, PutsOne, ArePairedOnce, PutsPairs, PutsAssigned, IsWithin, IsRow, CrossesOnce, HandsOnce, HasCrossing}
 use Rattle.jr_kept.specs.Waiting.{IsBelow}
 use Rattle.jr_kept.proofs.Below.{all_filter, children_below}

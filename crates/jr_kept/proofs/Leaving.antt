@@ -1,5 +1,5 @@
 -- Of graphs with more points and steps: no other value leaves the method, and none is lost but by a use behind it.
-use Rattle.std.proofs.Common.{◌≡◌, ◌⊎◌, inl, inr, ⊎_elim, refl, sym, ◌∙◌, ap, subst, arith, ℕ, ◌+◌, ◌<◌, ◌≤◌, Bool, true, false, not, ◌&&◌, List, [], ◌∷◌, ◌++◌, length, map, Option, Some, None, is_some, nat_eq, nat_lt, slice_get}
+use Rattle.std.proofs.Common.{◌≡◌, ◌⊎◌, inl, inr, ⊎_elim, refl, sym, ◌∙◌, ap, subst, arith, ℕ, ◌<◌, ◌≤◌, Bool, true, false, not, ◌&&◌, List, [], ◌∷◌, ◌++◌, length, map, Option, Some, None, is_some, nat_eq, nat_lt, slice_get}
 use Rattle.std.specs.List.{Contains}
 use Rattle.std.proofs.lemmas.Bool.{false≢true, cases_lt}
 use Rattle.std.proofs.lemmas.Bool.Decides.{Decides-ltb}
@@ -23,7 +23,7 @@ use Rattle.jr_kept.specs.Disturbed.{local_of}
 use Rattle.jr_kept.specs.Gathered.{use_in, pair_of}
 use Rattle.jr_kept.specs.Searched.{AreWithin}
 use Rattle.jr_kept.specs.Spliced.{exit_number}
-use Rattle.jr_kept.specs.Carried.{is_exit_at, is_exit_kind, Includes, Grows, OnlyBehind, IsDefinedTo, OnlyDefines, value_if, value_by, value_at, item_of, values_by, Leaves, OnlyLeaving, pairs_by, OnlyCopies, HasHub, OnlyHub, HasExits, IsUsedBehind, IsOf, IsOtherOf, IsCopyOf, IsCopyOfOne, IsOtherCopy, NoneBehind, IsUnlostBy}
+use Rattle.jr_kept.specs.Carried.{is_exit_at, is_exit_kind, Includes, Grows, OnlyBehind, IsDefinedTo, OnlyDefines, value_by, value_at, item_of, values_by, OnlyLeaving, pairs_by, OnlyCopies, HasHub, OnlyHub, HasExits, IsUsedBehind, IsOf, IsOtherOf, IsCopyOf, IsCopyOfOne, IsOtherCopy, NoneBehind, IsUnlostBy}
 use Rattle.jr_kept.proofs.Naming.{get_inside}
 use Rattle.jr_kept.proofs.Telling.{tells_both, tells_like}
 use Rattle.jr_kept.proofs.Carrying.{seen_more, point_now, exit_point, and_last}

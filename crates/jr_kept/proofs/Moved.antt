@@ -19,7 +19,7 @@ use Rattle.jr_kept.specs.Ordered.{Tells}
 use Rattle.jr_kept.specs.Carried.{is_exit_at}
 use Rattle.jr_kept.specs.Disturbed.{some_if}
 use Rattle.jr_kept.specs.Waiting.{AreShaped, IsFree}
-use Rattle.jr_kept.specs.Returned.{is_return, is_noted, AreMoved, OnlyMoved, IsNoted, NotesIf, NotesReturn, NotesTo, moved_by, moved_at, AreFreeTo, LeadsOut, LeadOutTo, IsMoved, LeavesByNumbers}
+use Rattle.jr_kept.specs.Returned.{is_return, is_noted, AreMoved, OnlyMoved, NotesIf, NotesReturn, NotesTo, moved_by, moved_at, AreFreeTo, LeadsOut, LeadOutTo, IsMoved, LeavesByNumbers}
 use Rattle.jr_kept.proofs.Naming.{get_inside}
 use Rattle.jr_kept.proofs.Coming.{stamped_inside}
 use Rattle.jr_kept.proofs.Telling.{tells_still, tells_both, tells_like}

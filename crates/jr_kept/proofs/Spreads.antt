@@ -1,5 +1,5 @@
 -- The search for points that ways reach without coming to a barred one.
-use Rattle.std.proofs.Common.{◌≡◌, ◌⊎◌, inl, inr, ⊎_elim, sym, ◌∙◌, ap, subst, refl, ℕ, ◌<◌, Bool, true, false, List, [], ◌∷◌, ◌++◌, map, arith}
+use Rattle.std.proofs.Common.{◌≡◌, inl, inr, ⊎_elim, sym, ◌∙◌, ap, subst, refl, ℕ, ◌<◌, Bool, true, false, List, [], ◌∷◌, ◌++◌, map, arith}
 use Rattle.std.specs.List.{Contains}
 use Rattle.std.proofs.lemmas.Bool.{false≢true}
 use Rattle.std.proofs.lemmas.List.Elements.{Contains-append_left, Contains-append_right, Contains-append_cases, Contains-push, Contains-push_cases}
@@ -9,7 +9,7 @@ use Rattle.jr_flow_defs.proofs.Searched.{contains_out, contains_first, contains_
 use Rattle.jr_flow.specs.declared.point.Step.{Step}
 use Rattle.jr_flow.specs.Reached.{step_seen}
 use Rattle.jr_kept.specs.declared.lists.Lists.{Lists}
-use Rattle.jr_kept.specs.Listed.{under, lists_in, under_in, IsListing}
+use Rattle.jr_kept.specs.Listed.{IsListing}
 use Rattle.jr_kept.specs.Searched.{HasStepTo, IsMetOrOpen}
 use Rattle.jr_kept.specs.Spread.{back_of, AreWaysBack, IsSpread, AreSpread, AreNext, IsSpreading}
 use Rattle.jr_kept.proofs.Searching.{none_in, under_zero}

@@ -1,5 +1,5 @@
 -- Throws happen at nodes.
-use Rattle.std.proofs.Common.{◌≡◌, refl, sym, ◌∙◌, ap, subst, ⊎_elim, arith, ℕ, zero, suc, ◌+◌, ◌-◌, ◌<◌, ◌≤◌, Bool, true, false, if◌then◌else◌, List, [], ◌∷◌, ◌++◌, map, length, Option, Some, None, nat_eq, slice_get}
+use Rattle.std.proofs.Common.{◌≡◌, refl, sym, ◌∙◌, ap, subst, ⊎_elim, arith, ℕ, zero, suc, ◌+◌, ◌<◌, ◌≤◌, Bool, true, false, if◌then◌else◌, List, [], ◌∷◌, ◌++◌, map, length, Option, Some, None, nat_eq, slice_get}
 use Rattle.std.specs.List.{Contains}
 use Rattle.std.proofs.lemmas.Bool.{false≢true}
 use Rattle.std.proofs.lemmas.Bool.Decides.{Decides-eqb}
@@ -7,11 +7,10 @@ use Rattle.std.proofs.lemmas.List.Elements.{Contains-append_cases}
 use Rattle.std.proofs.lemmas.Option.{none-some, same_Some}
 use Rattle.jr_tree.specs.Rows.{Rows, label, parent}
 use Rattle.jr_flow_defs.specs.declared.point.Point.{Point}
-use Rattle.jr_flow_defs.specs.declared.point.PointKind.{PointKind}
 use Rattle.jr_flow_defs.specs.declared.point.PointKind.TheVariants as kind
 use Rattle.jr_flow_defs.specs.Meaning.{Meaning}
 use Rattle.jr_flow_defs.specs.Acts.{Act, part, event, node, define, use_of, quit, fork, choose, go, jump, acts}
-use Rattle.jr_flow_defs.specs.States.{Moment, before, completed, Pending, State, Hop, at, left, plainly, all_at, act_hops, ending, left_by, hops_by, hops}
+use Rattle.jr_flow_defs.specs.States.{Moment, before, completed, Pending, State, Hop, at, plainly, all_at, act_hops, ending, left_by, hops_by}
 use Rattle.jr_flow_defs.specs.Paths.{Steps}
 use Rattle.jr_flow_defs.specs.Edges.{point, act_point, point_by, body_flow}
 use Rattle.jr_flow_defs.proofs.Searched.{contains_out}

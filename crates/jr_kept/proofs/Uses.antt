@@ -1,11 +1,11 @@
 -- Definitions that reach uses on both sides of a change.
-use Rattle.std.proofs.Common.{◌≡◌, ◌⊎◌, inl, inr, ⊎_elim, refl, sym, ◌∙◌, ap, subst, arith, ℕ, ◌+◌, ◌<◌, ◌≤◌, Bool, true, false, List, [], ◌∷◌, ◌++◌, length, Option, Some, None, slice_get}
+use Rattle.std.proofs.Common.{◌≡◌, inl, inr, ⊎_elim, refl, sym, ◌∙◌, ap, subst, arith, ℕ, ◌+◌, ◌<◌, Bool, true, false, List, [], ◌∷◌, ◌++◌, length, Option, Some, slice_get}
 use Rattle.std.specs.List.{Contains}
 use Rattle.std.proofs.lemmas.Bool.{false≢true, cases_lt}
 use Rattle.std.proofs.lemmas.Option.{none-some, same_Some}
 use Rattle.std.proofs.lemmas.List.Elements.{Contains-append_left, Contains-push, Contains-push_cases}
 use Rattle.jr_places.specs.declared.stamps.Stamps.{Stamps}
-use Rattle.jr_places.specs.Stamps.{is_stamped, IsStamping, IsEmptied, AddsStamp}
+use Rattle.jr_places.specs.Stamps.{is_stamped, IsEmptied, AddsStamp}
 use Rattle.jr_flow_defs.specs.declared.point.Point.{Point}
 use Rattle.jr_flow_defs.specs.declared.point.PointKind.{PointKind}
 use Rattle.jr_flow_defs.specs.declared.point.PointKind.TheVariants as kind
@@ -19,9 +19,9 @@ use Rattle.jr_kept.specs.declared.lists.Lists.{Lists}
 use Rattle.jr_kept.specs.declared.handing.Handing.{Handing}
 use Rattle.jr_kept.specs.Listed.{under_in}
 use Rattle.jr_kept.specs.Named.{origin_in}
-use Rattle.jr_kept.specs.Ordered.{AreNone, Checks}
+use Rattle.jr_kept.specs.Ordered.{Checks}
 use Rattle.jr_kept.specs.Gathered.{use_in, AddsRow, AreOriginals, AreReached, IsFound, IsOriginalOf, Listed}
-use Rattle.jr_kept.specs.Arrived.{old_use, use_from, IsSame, AllSame, Compares, IsDone, AreDone, AreSame, KeepsUses}
+use Rattle.jr_kept.specs.Arrived.{old_use, use_from, IsSame, Compares, IsDone, AreDone, AreSame, KeepsUses}
 use Rattle.jr_kept.proofs.Naming.{get_inside}
 use Rattle.jr_kept.proofs.Searching.{none_in}
 

@@ -1,5 +1,5 @@
 -- Definitions that reach uses on both sides of a change.
-use Rattle.std.specs.Prelude.{◌≡◌, ◌⊎◌, ℕ, ◌<◌, true, List, Option, Some, None, slice_get}
+use Rattle.std.specs.Prelude.{◌≡◌, ℕ, ◌<◌, true, List, Option, Some, None, slice_get}
 use Rattle.std.specs.List.{Contains}
 use Rattle.jr_places.specs.declared.stamps.Stamps.{Stamps}
 use Rattle.jr_places.specs.Stamps.{is_stamped, IsStamping}

@@ -1,5 +1,5 @@
 -- Values that locals of a method have where it is left, and uses of other copies of these locals behind the call, by the numbers of points.
-use Rattle.std.specs.Prelude.{◌≡◌, ◌⊎◌, ℕ, ◌+◌, ◌<◌, ◌≤◌, Bool, true, false, not, ◌&&◌, if◌then◌else◌, List, [], ◌∷◌, ◌++◌, length, Option, Some, None, is_some, nat_eq, nat_lt, slice_get}
+use Rattle.std.specs.Prelude.{◌≡◌, ◌⊎◌, ℕ, ◌<◌, ◌≤◌, Bool, true, false, not, ◌&&◌, if◌then◌else◌, List, [], ◌∷◌, ◌++◌, length, Option, Some, None, is_some, nat_eq, nat_lt, slice_get}
 use Rattle.std.specs.List.{Contains}
 use Rattle.jr_flow_defs.specs.declared.point.Point.{Point}
 use Rattle.jr_flow_defs.specs.declared.point.PointKind.{PointKind}

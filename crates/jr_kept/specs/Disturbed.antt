@@ -1,5 +1,5 @@
 -- Definitions between that of a local and its uses, by the numbers of points.
-use Rattle.std.specs.Prelude.{◌≡◌, ◌⊎◌, ℕ, ◌<◌, ◌≤◌, Bool, true, false, not, ◌&&◌, ◌||◌, if◌then◌else◌, List, Option, Some, None, nat_eq, nat_lt, slice_get}
+use Rattle.std.specs.Prelude.{◌≡◌, ◌⊎◌, ℕ, ◌<◌, Bool, true, false, not, ◌&&◌, ◌||◌, if◌then◌else◌, List, Option, Some, None, nat_eq, nat_lt, slice_get}
 use Rattle.std.specs.List.{Contains}
 use Rattle.jr_tree.specs.Rows.{Rows, end}
 use Rattle.jr_places.specs.declared.stamps.Stamps.{Stamps}

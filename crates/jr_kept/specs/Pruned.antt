@@ -1,5 +1,5 @@
 -- A graph without the points that control does not reach.
-use Rattle.std.specs.Prelude.{◌≡◌, ℕ, ◌+◌, ◌<◌, ◌≤◌, Bool, true, ◌||◌, List, [], ◌∷◌, ◌++◌, length, Option, Some, None, if◌then◌else◌, nat_lt, slice_get}
+use Rattle.std.specs.Prelude.{◌≡◌, ℕ, ◌<◌, ◌≤◌, Bool, true, ◌||◌, List, [], ◌∷◌, ◌++◌, length, Option, Some, None, if◌then◌else◌, nat_lt, slice_get}
 use Rattle.std.specs.List.{Contains}
 use Rattle.jr_places.specs.declared.stamps.Stamps.{Stamps}
 use Rattle.jr_places.specs.Stamps.{is_stamped, IsStamping}

@@ -1,4 +1,4 @@
-use Rattle.std.proofs.Common.{◌≡◌, inl, inr, ⊎_elim, sym, ap, ℕ, Bool}
+use Rattle.std.proofs.Common.{inl, inr, ⊎_elim, sym, ap, ℕ, Bool}
 use Rattle.jr_kept.proofs.Carrying.{steps_still, step_now}
 use Rattle.jr_kept.proofs.Leaving.{step_before}
 use Rattle.jr_kept.proofs.carried.put_step_if.Goals as goal

@@ -1,4 +1,3 @@
-use Rattle.std.proofs.Common.{ℕ}
 use Rattle.jr_flow_defs.specs.Meaning.{Meaning}
 use Rattle.jr_kept.specs.Courses.{IsSeen}
 use Rattle.jr_kept.specs.Ordered.{AreNone, OnlyAdds}

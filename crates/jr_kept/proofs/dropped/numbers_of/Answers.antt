@@ -1,5 +1,5 @@
 use Rattle.std.proofs.Common.{◌≡◌, ◌++◌, ◌+◌, ◌∷◌, [], if◌then◌else◌, Bool, sym, ◌∙◌, ap, subst, arith, length}
-use Rattle.jr_kept.specs.Disturbed.{is_such, AreSuch}
+use Rattle.jr_kept.specs.Disturbed.{AreSuch}
 use Rattle.jr_kept.proofs.Disturbing.{such_none, such_more}
 use Rattle.jr_kept.proofs.dropped.numbers_of.Goals as goal
 

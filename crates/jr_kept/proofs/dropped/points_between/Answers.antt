@@ -1,4 +1,4 @@
-use Rattle.std.proofs.Common.{◌≡◌, ◌<◌, sym, ◌∙◌, subst, arith, ℕ, true, false, length}
+use Rattle.std.proofs.Common.{◌≡◌, ◌<◌, subst, arith, ℕ, true, false, length}
 use Rattle.std.specs.List.{Contains}
 use Rattle.jr_places.specs.Stamps.{is_stamped}
 use Rattle.jr_flow.specs.Reached.{steps_of}

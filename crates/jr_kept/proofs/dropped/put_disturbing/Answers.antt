@@ -1,7 +1,5 @@
-use Rattle.std.proofs.Common.{◌≡◌, sym, ◌∙◌, subst, length, true}
+use Rattle.std.proofs.Common.{◌≡◌, sym, subst, length, true}
 use Rattle.std.proofs.lemmas.Result.{on_ok_weaker}
-use Rattle.jr_tree.specs.Rows.{end}
-use Rattle.jr_flow.specs.Reached.{steps_of}
 use Rattle.jr_kept.specs.Disturbed.{MayThrow, HasThrow, AreHeld, OnlyHeld, NoneDisturbs}
 use Rattle.jr_kept.proofs.Disturbing.{undisturbed, none_disturbs}
 use Rattle.jr_kept.proofs.dropped.put_disturbing.Goals as goal

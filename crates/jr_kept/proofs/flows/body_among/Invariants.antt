@@ -1,4 +1,4 @@
-use Rattle.std.proofs.Common.{ℕ, ◌<◌, ◌^◌, length}
+use Rattle.std.proofs.Common.{◌<◌, ◌^◌, length}
 use Rattle.jr_kept.specs.Courses.{AreBodies}
 use Rattle.jr_kept.proofs.Rounding.{IsLastRound}
 use Rattle.jr_kept.proofs.flows.body_among.Given as goal

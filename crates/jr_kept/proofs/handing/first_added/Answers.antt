@@ -1,4 +1,4 @@
-use Rattle.std.proofs.Common.{◌≡◌, ◌≤◌, sym, ◌∙◌, ap, arith, length, slice_get}
+use Rattle.std.proofs.Common.{◌≤◌, sym, ◌∙◌, ap, arith, length}
 use Rattle.jr_kept.specs.Named.{origin_in}
 use Rattle.jr_kept.specs.Handed.{added_in}
 use Rattle.jr_kept.proofs.Crossing.{none_added_more, none_added}

@@ -1,4 +1,4 @@
-use Rattle.std.proofs.Common.{refl, subst, IfSome, ◌⊎◌, inl}
+use Rattle.std.proofs.Common.{subst, IfSome, ◌⊎◌, inl}
 use Rattle.std.proofs.lemmas.Result.{IfOk-weaker}
 use Rattle.std.proofs.lemmas.Result.{err_from_is_err_and}
 use Rattle.jr_kept.specs.Courses.{HasLarge}

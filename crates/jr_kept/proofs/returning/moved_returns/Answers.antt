@@ -1,6 +1,4 @@
-use Rattle.std.proofs.Common.{◌≡◌, ◌+◌, ◌-◌, ◌<◌, ◌^◌, sym, ◌∙◌, ap, ap₂, subst}
-use Rattle.jr_tree.specs.Rows.{end}
-use Rattle.jr_places.specs.Stamps.{IsEmptied}
+use Rattle.std.proofs.Common.{◌≡◌, ◌+◌, ◌-◌, ◌<◌, ◌^◌, sym, ◌∙◌, ap, subst}
 use Rattle.jr_kept.specs.Named.{origin_in}
 use Rattle.jr_kept.proofs.Moved.{all_moved, only_moved}
 use Rattle.jr_kept.proofs.returning.moved_returns.Goals as goal

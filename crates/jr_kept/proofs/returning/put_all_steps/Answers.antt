@@ -1,4 +1,4 @@
-use Rattle.std.proofs.Common.{◌≡◌, ◌∙◌, subst, arith, length, slice_get}
+use Rattle.std.proofs.Common.{◌≡◌, subst, arith, length, slice_get}
 use Rattle.jr_kept.specs.Ordered.{Tells}
 use Rattle.jr_kept.specs.Returned.{LeadsOut, LeadOutTo}
 use Rattle.jr_kept.proofs.Telling.{tells_still}

@@ -1,4 +1,4 @@
-use Rattle.std.proofs.Common.{sym, subst, []}
+use Rattle.std.proofs.Common.{sym, subst}
 use Rattle.jr_places.specs.Stamps.{IsEmptied}
 use Rattle.jr_kept.specs.Listed.{under_in}
 use Rattle.jr_kept.specs.Spread.{AreNext}

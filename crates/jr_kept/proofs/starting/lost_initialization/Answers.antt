@@ -1,4 +1,4 @@
-use Rattle.std.proofs.Common.{◌≡◌, sym, ◌∙◌, subst, true, Some, IfSome}
+use Rattle.std.proofs.Common.{◌≡◌, sym, ◌∙◌, subst, Some, IfSome}
 use Rattle.std.proofs.lemmas.Result.{err_from_is_err_and}
 use Rattle.jr_flow_defs.specs.Meaning.{declared}
 use Rattle.jr_kept.specs.Started.{ActsAtStart}

@@ -1,7 +1,5 @@
-use Rattle.std.proofs.Common.{◌≡◌, ℕ, true, sym, ◌∙◌, subst}
+use Rattle.std.proofs.Common.{sym, subst}
 use Rattle.std.specs.List.{Contains}
-use Rattle.jr_places.specs.Stamps.{is_stamped}
-use Rattle.jr_kept.specs.Gathered.{is_original}
 use Rattle.jr_kept.proofs.arriving.Sides.compare.Goals as goal
 
 pub returns-clause-checks : goal.returns-clause-checks

@@ -1,4 +1,4 @@
-use Rattle.std.proofs.Common.{◌++◌, refl, sym, ◌∙◌, ap₂, subst}
+use Rattle.std.proofs.Common.{◌++◌, sym, ◌∙◌, ap₂, subst}
 use Rattle.std.proofs.lemmas.Result.{on_ok_weaker}
 use Rattle.jr_kept.specs.Listed.{under_in}
 use Rattle.jr_kept.specs.Named.{origin_in}

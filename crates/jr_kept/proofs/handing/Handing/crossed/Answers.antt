@@ -1,4 +1,4 @@
-use Rattle.std.proofs.Common.{sym, subst, length}
+use Rattle.std.proofs.Common.{subst, length}
 use Rattle.jr_kept.specs.Handed.{AddsPairs, ArePairedOnce, PutsPairs}
 use Rattle.jr_kept.proofs.Crossing.{crosses}
 use Rattle.jr_kept.proofs.Handover.{has_crossing}

@@ -1,4 +1,4 @@
-use Rattle.std.proofs.Common.{◌≡◌, sym, ◌∙◌, subst, length, false, true}
+use Rattle.std.proofs.Common.{sym, ◌∙◌, subst, length}
 use Rattle.std.proofs.lemmas.Bool.{false≢true}
 use Rattle.jr_kept.specs.Named.{origin_in}
 use Rattle.jr_kept.specs.Handed.{HasPairs}

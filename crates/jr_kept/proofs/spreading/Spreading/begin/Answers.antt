@@ -1,4 +1,4 @@
-use Rattle.std.proofs.Common.{refl, inl, ◌≡◌, ◌+◌, ℕ, ◌++◌, sym, ◌∙◌, ap, subst, arith, take}
+use Rattle.std.proofs.Common.{refl, inl, ◌+◌, ℕ, ◌++◌, ◌∙◌, ap, subst, arith, take}
 use Rattle.std.specs.List.{Contains}
 use Rattle.std.proofs.lemmas.Grind.{take_at_read}
 use Rattle.std.proofs.lemmas.List.{take_all}
