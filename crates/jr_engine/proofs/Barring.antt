@@ -13,7 +13,6 @@ use Rattle.jr_base.specs.declared.ids.CuId.{CuId}
 use Rattle.jr_base.specs.declared.limits.Size.{Size}
 use Rattle.jr_base.specs.declared.limits.Size.TheVariants as size
 use Rattle.jr_base.specs.declared.limits.TheConstants.Limits as limits
-use Rattle.jr_base.specs.declared.token.Place.{Place}
 use Rattle.jr_base.specs.declared.token.Token.{Token}
 use Rattle.jr_rule.specs.declared.Rule.TheVariants.{PathTwice}
 use Rattle.jr_parse.specs.Answers.{Answers}
@@ -32,7 +31,7 @@ use Rattle.jr_front.specs.Refusing.{IsRefusal}
 use Rattle.jr_front.specs.declared.fault.FrontFault.{FrontFault}
 use Rattle.jr_front.specs.declared.fault.FrontFault.TheVariants as front
 use Rattle.jr_flow.proofs.Woven.{in_map}
-use Rattle.jr_engine.specs.Barring.{AreRefused, AreRefusedFor, AreTooDeep, AreTooLarge, Bars, BreakRule, HasDeepText, HasText, IsDepth, IsDifference, IsNestedTooDeep, IsToldFor, IsUnread}
+use Rattle.jr_engine.specs.Barring.{AreRefusedFor, AreTooDeep, AreTooLarge, Bars, BreakRule, HasDeepText, HasText, IsDepth, IsDifference, IsNestedTooDeep, IsToldFor, IsUnread}
 use Rattle.jr_engine.specs.Refusing.{IsHinderedIn, IsTooLarge}
 use Rattle.jr_engine.specs.Texts.{AreSmall, changed_files, first_twice}
 use Rattle.jr_engine.specs.declared.asked.Asked.{Asked}

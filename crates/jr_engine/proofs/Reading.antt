@@ -32,7 +32,6 @@ use Rattle.jr_engine.specs.declared.fault.StepFault.{StepFault}
 use Rattle.jr_engine.specs.declared.fault.StepFault.TheVariants as step
 use Rattle.jr_engine.specs.declared.left.Left.{Left}
 use Rattle.jr_engine.specs.declared.locked.Locked.{Locked}
-use Rattle.jr_engine.specs.declared.tried.Spelled.{Spelled}
 
 -- ---- tokens of the changed program
 

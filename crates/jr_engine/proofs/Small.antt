@@ -1,5 +1,5 @@
 -- Texts that are small.
-use Rattle.std.proofs.Common.{◌≡◌, ℕ, ◌<◌, ◌≤◌, ◌^◌, ◌+◌, List, [], ◌∷◌, ◌++◌, length, arith}
+use Rattle.std.proofs.Common.{ℕ, ◌≤◌, List, [], ◌∷◌, ◌++◌, length, arith}
 use Rattle.jr_engine.specs.Texts.{AreSmall}
 
 pub one_more : (files : List (List ℕ × List ℕ)) (path text : List ℕ) → AreSmall files → length text ≤ 67108864 → AreSmall (files ++ (path, text) ∷ [])

@@ -1,5 +1,5 @@
 -- The program under its locks is whole, and its spellings are the first that fit.
-use Rattle.std.proofs.Common.{◌≡◌, ◌∙◌, ap, refl, sym, subst, ◌⊎◌, ⊎_elim, inl, inr, arith, ℕ, ◌+◌, ◌<◌, ◌≤◌, ◌^◌, Bool, true, false, cond, List, [], ◌∷◌, length, get_or, Option, Some, None, is_some, Decides, slice_index_or}
+use Rattle.std.proofs.Common.{◌≡◌, ◌∙◌, ap, refl, sym, subst, ◌⊎◌, ⊎_elim, inl, inr, arith, ℕ, ◌+◌, ◌<◌, ◌≤◌, Bool, true, false, cond, List, [], ◌∷◌, length, get_or, Option, Some, None, is_some, Decides, slice_index_or}
 use Rattle.std.specs.List.{AllByRecursion}
 use Rattle.std.specs.Option.{option_map_or}
 use Rattle.std.proofs.Math.Path.{fun_ext}
@@ -20,8 +20,7 @@ use Rattle.jr_defs.specs.Packages.{InPackage}
 use Rattle.jr_defs.specs.Laws.{Picked}
 use Rattle.jr_defs.specs.Operators.{assigned_to}
 use Rattle.jr_defs.specs.Referents.{Table, entries}
-use Rattle.jr_defs.specs.Typing.{TypeOf}
-use Rattle.jr_plain.specs.Constants.{constants, converted_as, has_constant_form, is_initialized, variable_value}
+use Rattle.jr_plain.specs.Constants.{converted_as, is_initialized}
 use Rattle.jr_plain.specs.Conversions.{Constants, of_two}
 use Rattle.jr_plain.specs.Overloads.{Types}
 use Rattle.jr_plain.specs.Search.{Finds}

@@ -1,5 +1,5 @@
 -- What is known of a step by its parts, and of steps one after another.
-use Rattle.std.proofs.Common.{◌≡◌, ◌∙◌, ◌⊎◌, inl, inr, Decides, ◌+◌, ◌-◌, min, ◌<◌, ◌^◌, ap, refl, true, Bool, Option, Some, None, is_some, List, append_assoc, [], ◌∷◌, ◌++◌, ℕ, suc, Result, Ok, Err, IfErr, IfOk, IsTrue, length, map, arith, sym, subst}
+use Rattle.std.proofs.Common.{◌≡◌, ◌∙◌, ◌⊎◌, inl, inr, Decides, ◌+◌, ◌-◌, min, ◌<◌, ◌^◌, ap, refl, true, Bool, Option, Some, None, is_some, List, append_assoc, [], ◌∷◌, ◌++◌, ℕ, Result, Ok, Err, IfErr, IfOk, IsTrue, length, map, arith, sym, subst}
 use Rattle.std.proofs.lemmas.List.{append-nil, length_push}
 use Rattle.std.proofs.lemmas.Option.{none-some, same_Some}
 use Rattle.std.specs.FinMap as files
@@ -31,7 +31,7 @@ use Rattle.jr_engine.specs.Barring.{Bars}
 use Rattle.jr_engine.specs.Comparing.{ComparesLarge, Comparison, LosesControl, LosesUses}
 use Rattle.jr_engine.specs.Planning.{IsAccepted, PlannedAs, RefusedAs}
 use Rattle.jr_engine.specs.Refusing.{HasCause, HasLargeBody, IsBarred, IsCausedBy, IsHinderedIn, IsNumber, IsLargeIn, IsOfFiles, IsRefusedFrom, IsShownAt, IsToldAs, IsToldNumber, IsTooLarge, fault_of}
-use Rattle.jr_engine.specs.Steps.{IsProjectIn, Opened, IsOpened, IsRead, IsHeld, IsMeaningOf, KeepsFlow, IsAskedOf, IsRequested, LeftBy, IsStep, stays, leaves, AreSteps, none, more, IsFollowed, opened, opened_by}
+use Rattle.jr_engine.specs.Steps.{IsProjectIn, Opened, IsOpened, IsRead, IsHeld, IsMeaningOf, IsAskedOf, IsRequested, LeftBy, IsStep, stays, leaves, AreSteps, none, more, IsFollowed, opened, opened_by}
 use Rattle.jr_tree.specs.Rows.{Rows}
 use Rattle.jr_defs.specs.Referents.{Table, entries}
 use Rattle.jr_defs.specs.declared.referent.Referent.{Referent}

@@ -1,5 +1,5 @@
 -- Why files may not be left: the front refuses their program, two of them have one path, or a size of theirs passes its limit.
-use Rattle.std.specs.Prelude.{◌≡◌, ℕ, Bool, true, false, List, ◌++◌, Some, map, ⊤}
+use Rattle.std.specs.Prelude.{◌≡◌, ℕ, true, List, ◌++◌, Some, map, ⊤}
 use Rattle.std.specs.List.{Contains}
 use Rattle.jr_base.specs.Reading.{Lex}
 use Rattle.jr_base.specs.declared.limits.Size.{Size}

@@ -1,5 +1,5 @@
 -- A changed program under its locks beside the old one: what it loses of flow, and which of its expressions have another type.
-use Rattle.std.specs.Prelude.{◌≡◌, ◌⊎◌, ℕ, length}
+use Rattle.std.specs.Prelude.{◌⊎◌, ℕ, length}
 use Rattle.jr_tree.specs.Rows.{Rows}
 use Rattle.jr_defs.specs.Referents.{Table}
 use Rattle.jr_rule.specs.declared.Rule.{Rule}

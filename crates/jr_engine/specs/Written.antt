@@ -1,5 +1,5 @@
 -- A changed program under its locks with its spellings, as the code holds it.
-use Rattle.std.specs.Prelude.{◌≡◌, ◌⊎◌, ℕ, ◌+◌, ◌<◌, ◌^◌, ◌++◌, Bool, List, Some, Ok, is_some, length, ⊤}
+use Rattle.std.specs.Prelude.{◌≡◌, ◌⊎◌, ℕ, ◌+◌, ◌<◌, ◌^◌, ◌++◌, Bool, List, Ok, is_some, length, ⊤}
 use Rattle.std.specs.FinMap as files
 use Rattle.std.specs.Option.{option_map_or}
 use Rattle.jr_front.specs.Bound.{IsBoundIn, IsIndexed, rows_in, table_in}
@@ -32,7 +32,6 @@ use Rattle.jr_locks.specs.Changed.{IsChanged, origins_by, copies_by}
 use Rattle.jr_locks.specs.Origins.{origin_of, row_by}
 use Rattle.jr_shapes.specs.declared.spelling.Spelling.{Spelling}
 use Rattle.jr_edges.specs.Dispatched.{KeepsDispatch}
-use Rattle.jr_change.specs.declared.change.Change.{Change}
 use Rattle.jr_engine.specs.Barring.{Bars}
 use Rattle.jr_engine.specs.Comparing.{BreaksTypes}
 use Rattle.jr_engine.specs.Steps.{AreFirst, IsHeld, KeepsFlow, IsAskedOf}
