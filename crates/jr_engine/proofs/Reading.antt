@@ -103,10 +103,9 @@ pub bars_not_left_if : (a : Asked) (texts : List (List ℕ × List ℕ)) (result
 bars_not_left_if a texts (Ok _) h = tt
 bars_not_left_if a texts (Err why) h = bars_not_left a texts why h
 
-pub retyped_not_left_if : (a : Asked) (texts : List (List ℕ × List ℕ)) (result : Result (Unit {0}) StepFault) → IfErr result (IsRetypedIn a) → IfErr result (AreNotLeft a texts)
-retyped_not_left_if a texts (Ok _) h = tt
-retyped_not_left_if a texts (Err (step.Broken rule place)) h = inr h
-retyped_not_left_if a texts (Err _) h = absurd h
+pub retyped_not_left : (a : Asked) (texts : List (List ℕ × List ℕ)) (why : StepFault) → IsRetypedIn a why → AreNotLeft a texts why
+retyped_not_left a texts (step.Broken rule place) h = inr h
+retyped_not_left a texts _ h = absurd h
 
 pub not_left_same : (a : Asked) (texts all : List (List ℕ × List ℕ)) (result : Result Left StepFault) → texts ≡ all → IfErr result (AreNotLeft a texts) → IfErr result (AreNotLeft a all)
 not_left_same a texts all result are h = subst (λ (e : List (List ℕ × List ℕ)). IfErr result (AreNotLeft a e)) are h

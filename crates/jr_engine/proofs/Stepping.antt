@@ -300,10 +300,10 @@ followed asked locked all left a by first kept flow is whole texts = record {
       (record { opened = held_opened left is.1; spellings = all; first = first; texts = texts_left found asked locked all left read whole texts; respelled = is.0 });
 }
 
-pub followed_so : (asked : Asked) (locked : Locked) (all : List Spelling) (result : Result Left StepFault) → IsAskedFor asked → IsLockedBy asked locked → AreFirstIn asked locked all → KeepsCallsIn asked locked → KeepsFlowIn asked locked
-    → IfOk result (λ left. IsLeftOf locked all left) → IsReadBy asked locked → IfOk result (HasTextsOf locked all) → IfOk result (λ left. IsFollowed asked.old.now asked.request.now left)
-followed_so asked locked all (Ok left) a by first kept flow is whole texts = followed asked locked all left a by first kept flow is whole texts
-followed_so asked locked all (Err why) a by first kept flow is whole texts = tt
+pub followed_so : (asked : Asked) (locked : Locked) (all : List Spelling) (result : Result Left StepFault) → IsAskedFor asked → IsLockedBy asked locked → AreFirstIn asked locked all → KeepsCallsIn asked locked
+    → (KeepsBodiesIn asked locked → KeepsFlowIn asked locked) → IfOk result (λ left. KeepsBodiesIn asked locked) → IfOk result (λ left. IsLeftOf locked all left) → IsReadBy asked locked → IfOk result (HasTextsOf locked all) → IfOk result (λ left. IsFollowed asked.old.now asked.request.now left)
+followed_so asked locked all (Ok left) a by first kept flow bodies is whole texts = followed asked locked all left a by first kept (flow bodies) is whole texts
+followed_so asked locked all (Err why) a by first kept flow bodies is whole texts = tt
 
 locked_so : (asked : Asked) (locked : Locked) (rows : Rows) (locks : Locks) → IsChanged (rows_in asked.old.now) (table_in asked.old.now) asked.change.now rows (entries locks.table.items)
     → locks.origin.items ≡ origins_by asked.change.now → locks.copy.items ≡ copies_by (origins_by asked.change.now) (length (rows_in asked.old.now)) → rows_under locked ≡ rows → locked.locks ≡ locks → IsLockedBy asked locked

@@ -1,13 +1,13 @@
 // Whether edges of flow are kept, and whether there are too many points of flow.
 
-ghost use Rattle.std.specs.Prelude.{◌≡◌, ◌+◌, ◌<◌, ◌^◌, true, length, None, Some, IfOk, IfErr};
+ghost use Rattle.std.specs.Prelude.{◌≡◌, ◌+◌, ◌<◌, ◌^◌, true, length, None, Some, IfOk, IfErr, ℕ, List};
 ghost use Rattle.jr_marks.specs.Places.{IsOrdered, place_of_name};
 ghost use Rattle.jr_front.specs.Bound.{rows_in, table_in};
 ghost use Rattle.jr_kept.specs.declared.kept.LostEdge.{LostEdge};
 ghost use Rattle.jr_engine.specs.Refusing.{IsHinderedIn, IsLargeIn};
 ghost use Rattle.jr_flow.specs.Numbered.{OnlyWhere};
 ghost use Rattle.jr_engine.specs.Comparing.{ComparesLarge, LosesUses};
-ghost use Rattle.jr_engine.specs.Written.{HasTables, IsReady, KeepsBodiesIn, KeepsCallsIn, KeepsFlowIn};
+ghost use Rattle.jr_engine.specs.Written.{AreNotLeft, HasTables, IsReady, KeepsBodiesIn, KeepsCallsIn, KeepsFlowIn};
 ghost use Rattle.jr_engine.specs.declared.fault.LostKind.TheVariants as kind;
 ghost use Rattle.jr_engine.specs.declared.fault.StepFault.TheVariants as step;
 
@@ -135,11 +135,11 @@ fn keeps_control(
     }
 }
 
-// Bodies that are left alone mean what they meant; others were not to be written.
-fn keeps_others(alloc: Global, asked: Asked, locked: &Locked) -> Result<(), StepFault>
+/// Bodies that are left alone mean what they meant; others were not to be written.
+pub fn keeps_others(alloc: Global, asked: Asked, locked: &Locked) -> Result<(), StepFault>
     requires { IsReady asked locked.now }
     ensures ok { IfOk result (λ _. KeepsBodiesIn asked.entry locked.now) }
-    ensures err { IfErr result (IsHinderedIn asked.entry) }
+    ensures err { (texts : List (List ℕ × List ℕ)) → IfErr result (AreNotLeft asked.entry texts) }
 {
     let are_kept = keeps_bodies(alloc, asked, locked)?;
     if are_kept {
@@ -149,11 +149,11 @@ fn keeps_others(alloc: Global, asked: Asked, locked: &Locked) -> Result<(), Step
     }
 }
 
-/// Control goes as before, calls find in each class the methods that they found there, and uses of locals the values that they had.
+/// Control goes as before where statements move, calls find in each class the methods that they found there, and uses of locals the values that they had.
 pub fn keeps_edges(alloc: Global, asked: Asked, locked: &Locked) -> Result<(), StepFault>
     requires { IsReady asked locked.now }
     ensures calls { IfOk result (λ _. KeepsCallsIn asked.entry locked.now) }
-    ensures flow { IfOk result (λ _. KeepsFlowIn asked.entry locked.now) }
+    ensures flow { IfOk result (λ _. KeepsBodiesIn asked.entry locked.now → KeepsFlowIn asked.entry locked.now) }
     ensures err { IfErr result (IsHinderedIn asked.entry) }
 {
     is_changed_within_flow(alloc, asked, locked)?;
@@ -161,9 +161,6 @@ pub fn keeps_edges(alloc: Global, asked: Asked, locked: &Locked) -> Result<(), S
     keeps_calls(alloc, asked, locked)?;
     match def_use {
         Some(edge) => Err(lost(LostKind::DefUse, edge)),
-        None => {
-            keeps_others(alloc, asked, locked)?;
-            Ok(())
-        }
+        None => Ok(()),
     }
 }

@@ -10,10 +10,11 @@ ghost use Rattle.jr_rule.specs.declared.Rule.TheVariants as rules;
 ghost use Rattle.jr_front.specs.Checking.{CheckedAs};
 ghost use Rattle.jr_engine.specs.Barring.{AreTooLarge, Bars, IsToldFor};
 ghost use Rattle.jr_engine.specs.Texts as spec;
-ghost use Rattle.jr_engine.specs.Written.{AreNotLeft, AreTextsOf, HasTextsOf, IsLeftOf, IsNotLeft, IsReady, IsRetypedIn, IsSpelledIn};
+ghost use Rattle.jr_engine.specs.Written.{AreNotLeft, AreTextsOf, HasTextsOf, IsLeftOf, IsNotLeft, IsReady, IsRetypedIn, IsSpelledIn, KeepsBodiesIn};
 ghost use Rattle.jr_engine.specs.declared.fault.StepFault.TheVariants as step;
 
 use crate::asked::{Asked, project_of};
+use crate::edges::keeps_others;
 use crate::fault::StepFault;
 use crate::filing::{files_of, rise};
 use crate::left::Left;
@@ -212,6 +213,18 @@ fn keeps_types(spelled: Spelled, edits: &[Edits]) -> Result<(), StepFault>
     }
 }
 
+// Expressions that stay, and bodies that are left alone, mean what they meant.
+fn keeps_meanings(alloc: Global, spelled: Spelled, edits: &[Edits]) -> Result<(), StepFault>
+    requires { IsReady spelled.asked spelled.locked.now }
+    ensures ok { IfOk result (λ _. KeepsBodiesIn spelled.entry.asked spelled.entry.locked.now) }
+    ensures err { (texts : List (List ℕ × List ℕ)) → IfErr result (AreNotLeft spelled.entry.asked texts) }
+{
+    match keeps_types(spelled, edits) {
+        Ok(()) => keeps_others(alloc, spelled.asked, spelled.locked),
+        Err(fault) => Err(fault),
+    }
+}
+
 // The program of these files is as it was to be written.
 fn is_left_as(
     alloc: Global,
@@ -222,10 +235,11 @@ fn is_left_as(
 ) -> Result<(), StepFault>
     requires { IsReady spelled.asked spelled.locked.now }
     ensures ok { IfOk result (λ _. IsSpelledIn spelled.entry program.now) }
+    ensures bodies { IfOk result (λ _. KeepsBodiesIn spelled.entry.asked spelled.entry.locked.now) }
     ensures err { IfErr result (AreNotLeft spelled.entry.asked (finite.entries files.now)) }
 {
     match is_as_spelled(alloc, spelled, program) {
-        Ok(()) => keeps_types(spelled, edits),
+        Ok(()) => keeps_meanings(alloc, spelled, edits),
         Err(fault) => Err(fault),
     }
 }
@@ -241,6 +255,7 @@ fn left_as(
     requires ready { IsReady spelled.asked spelled.locked.now }
     requires small { spec.AreSmall (finite.entries files) }
     ensures ok { IfOk result (λ left. IsLeftOf spelled.entry.locked.now spelled.entry.spellings.now left) }
+    ensures bodies { IfOk result (λ _. KeepsBodiesIn spelled.entry.asked spelled.entry.locked.now) }
     ensures files { IfOk result (λ left. left.files ≡ files) }
     ensures err { IfErr result (AreNotLeft spelled.entry.asked (finite.entries files)) }
 {
@@ -281,6 +296,7 @@ fn left_with(alloc: Global, spelled: Spelled, new: NewTexts) -> Result<Left, Ste
     requires ready { IsReady spelled.asked spelled.locked.now }
     requires small { spec.AreSmall (plain new.texts.items) }
     ensures ok { IfOk result (λ left. IsLeftOf spelled.entry.locked.now spelled.entry.spellings.now left) }
+    ensures bodies { IfOk result (λ _. KeepsBodiesIn spelled.entry.asked spelled.entry.locked.now) }
     ensures files { IfOk result (λ left. finite.entries left.files ≡ plain new.texts.items) }
     ensures err { IfErr result (AreNotLeft spelled.entry.asked (plain new.texts.items)) }
 {
@@ -295,6 +311,7 @@ fn left_with(alloc: Global, spelled: Spelled, new: NewTexts) -> Result<Left, Ste
 pub fn left_of(alloc: Global, spelled: Spelled) -> Result<Left, StepFault>
     requires { IsReady spelled.asked spelled.locked.now }
     ensures ok { IfOk result (λ left. IsLeftOf spelled.entry.locked.now spelled.entry.spellings.now left) }
+    ensures bodies { IfOk result (λ _. KeepsBodiesIn spelled.entry.asked spelled.entry.locked.now) }
     ensures texts { IfOk result (HasTextsOf spelled.entry.locked.now spelled.entry.spellings.now) }
     ensures err { IfErr result (IsNotLeft spelled.entry.asked spelled.entry.locked.now spelled.entry.spellings.now) }
 {

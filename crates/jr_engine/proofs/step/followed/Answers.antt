@@ -14,7 +14,7 @@ left_of-requires c = ready_so c.args.asked c.in_ok-locked.locked c.requires.aske
 
 pub returns-clause-ok : goal.returns-clause-ok
 returns-clause-ok c = followed_so c.args.asked c.in_ok-locked.locked c.deref.result.now c.left_of.result c.requires.asked c.in_ok-locked.ensures.locked
-    (subst (λ all. AreFirstIn c.args.asked c.in_ok-locked.locked all) (sym c.deref.ensures.value) c.in_ok-spellings.ensures.ok) c.in_ok-keeps_edges.ensures.calls c.in_ok-keeps_edges.ensures.flow c.left_of.ensures.ok
+    (subst (λ all. AreFirstIn c.args.asked c.in_ok-locked.locked all) (sym c.deref.ensures.value) c.in_ok-spellings.ensures.ok) c.in_ok-keeps_edges.ensures.calls c.in_ok-keeps_edges.ensures.flow c.left_of.ensures.bodies c.left_of.ensures.ok
     c.in_ok-locked.ensures.read c.left_of.ensures.texts
 
 pub returns-clause-err : goal.returns-clause-err
